@@ -1,11 +1,18 @@
 -- A row's interval of inside columns: the first and one past the last, and both width + 1 for a row with none.
-use mathlib.Core.Path.{_≡_, refl, sym, _∙_, ap, subst}
-use mathlib.Core.Bool.{Bool, true, false, cond, not}
-use Prim.Native.Nat.{ℕ, zero, suc, _+_, _*_, _-_, _≤_, _<_}
+use mathlib.Core.Path.{_≡_}
+use mathlib.Core.Bool.{Bool}
+use Prim.Native.Nat.{ℕ, suc, _+_, _-_, _≤_, _<_}
 use native.Mathlib.Omega.{arith}
 use native.Mathlib.Decide.{decLe}
 use lib.Dec.{T}
-use Rattle.walkgraph.proofs.Tests.{by-cases, decT}
+use Rattle.walkgraph.specs.Lists.{firstFrom, pastLast}
+use Rattle.walkgraph.specs.Map.{Box}
+use Rattle.walkgraph.specs.Sweep.{PaddedWindow, padded}
+use Rattle.walkgraph.specs.Buffers.{rowFirst, rowPast}
+use Rattle.walkgraph.proofs.Tests.{by-cases}
+use Rattle.walkgraph.proofs.Lists.{IsFirst, first-from, IsPast, nobody, somebody, past-last}
+use Rattle.walkgraph.proofs.WindowEdges.{true-inside, inside-true}
+use Rattle.walkgraph.proofs.Consecutive.{convex}
 
 -- f marks the inside columns of 1 .. w. [a, b) is their interval
 pub record IsInterval (f : ℕ → Bool) (w a b : ℕ) : Type 0 where
@@ -48,3 +55,53 @@ interval-one {f} {w} {a} {b} {c} {d} i j =
     let y = interval-outside i c (j .low) (omega (arith, j .high)) (t .0) in
     absurd (omega (arith, i .ends)))
     (λ k. let g = j .none (omega (arith, j .ends)) in (omega arith, omega (arith, i .ends, j .ends))))
+
+-- the first inside column and one past the last are the interval
+pub interval-made : (f : ℕ → Bool) (w : ℕ) → IsInterval f w (firstFrom f 1 w) (pastLast f (w + 1) w)
+interval-made f w = made (first-from f 1 w) (past-last f (w + 1) w)
+  where
+    made : {a b : ℕ} → IsFirst f 1 w a → IsPast f (w + 1) w b → IsInterval f w a b
+    made {a} {b} i (nobody e g) =
+        let k : a ≡ w + 1 = by-cases (decLe a w) (λ h. absurd (g a (i .low) h (i .some (omega arith)))) (λ h. omega (arith, i .high)) in
+        record {
+          low = i .low;
+          ends = omega arith;
+          high = omega arith;
+          first = λ x p q r. i .none x p q;
+          past = λ x p q. absurd (omega arith);
+          some = λ h. absurd (omega arith);
+          none = λ h. k;
+        }
+    made {a} {b} i (somebody last e p q t g) =
+        let k : a ≤ last = by-cases (decLe a last) (λ h. h) (λ h. absurd (i .none last p (omega arith) t)) in
+        let l : b - 1 ≡ last = omega arith in
+        record {
+          low = i .low;
+          ends = omega arith;
+          high = omega arith;
+          first = λ x p q r. i .none x p q;
+          past = λ x p q. g x (omega arith) q;
+          some = λ h. (i .some (omega arith), rw l t);
+          none = λ h. absurd (omega arith);
+        }
+
+-- ---- the rows of a window
+module _ (m : PaddedWindow) (y : ℕ) where
+  pub row-interval : IsInterval (λ x. m .inside x y) (m .width) (rowFirst m y) (rowPast m y)
+  unfolding rowFirst rowPast
+  row-interval = interval-made (λ x. m .inside x y) (m .width)
+
+-- where S and the target box are not empty, a row's interval is exactly its inside columns
+module _ (reach w h : ℕ) (p : ℕ → ℕ → Bool) (s t : Box) (filled : s .left ≤ s .right) (aimed : t .left ≤ t .right) (y : ℕ) where
+  abbrev M : PaddedWindow
+  M = padded reach w h p s t
+
+  pub row-inside : (x : ℕ) → rowFirst M y ≤ x → x < rowPast M y → T (M .inside x y)
+  unfolding padded
+  row-inside =
+      interval-inside (row-interval M y)
+      (λ a n b i j e f.
+      true-inside reach s t _ _ (convex reach s t filled aimed _ _ _ _ (omega arith) (omega arith) (inside-true reach s t _ _ e) (inside-true reach s t _ _ f)))
+
+  pub inside-row : (x : ℕ) → 1 ≤ x → x ≤ M .width → T (M .inside x y) → (rowFirst M y ≤ x) × (x < rowPast M y)
+  inside-row = interval-outside (row-interval M y)

@@ -28,3 +28,4 @@ pub mod DisjointSet
 pub mod Ranks
 pub mod Numbering
 pub mod NumberingMade
+pub mod AccessList

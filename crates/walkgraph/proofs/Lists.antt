@@ -1,10 +1,14 @@
 -- Lists by their entries, and first and last numbers that pass a test.
 use mathlib.Core.Path.{_≡_, refl, ap}
-use mathlib.Core.List.{List, [], _∷_}
-use Prim.Native.Nat.{ℕ, zero, suc, _<_}
+use mathlib.Core.Bool.{Bool, not}
+use Prim.Native.Nat.{ℕ, zero, suc, _+_, _≤_, _<_}
 use native.Mathlib.Nat.{le-of-suc-le-suc, not-suc-le-zero}
+use native.Mathlib.Decide.{decLe, ℕ-discrete}
+use native.Mathlib.Omega.{arith}
 use lib.ListN.{getD, length}
-use Rattle.walkgraph.specs.Lists.{tabulate, grown, grow}
+use lib.Dec.{T, T-not}
+use Rattle.walkgraph.specs.Lists.{tabulate, grown, grow, firstFrom, pastLast}
+use Rattle.walkgraph.proofs.Tests.{by-cases, cond-ind}
 
 pub getD-tabulate {ℓ} : {A : Type ℓ} (n : ℕ) (f : ℕ → A) (d : A) (i : ℕ) → i < n → getD (tabulate n f) i d ≡ f i
 unfolding tabulate
@@ -29,3 +33,45 @@ unfolding grow grown
 getD-grow zero first next d i h = absurd (not-suc-le-zero h)
 getD-grow (suc n) first next d zero h = refl
 getD-grow (suc n) first next d (suc i) h = rw (getD-grow n (next zero first) (λ i. next (suc i)) d i (le-of-suc-le-suc h)) (grown-later first next i)
+
+-- ---- the first of the n numbers from a on that passes, or a + n
+pub record IsFirst (test : ℕ → Bool) (a n r : ℕ) : Type 0 where
+  pub low : a ≤ r
+  pub high : r ≤ a + n
+  pub none : (x : ℕ) → a ≤ x → x < r → ¬ (T (test x))
+  pub some : r < a + n → T (test r)
+
+pub first-from : (test : ℕ → Bool) (a n : ℕ) → IsFirst test a n (firstFrom test a n)
+unfolding firstFrom
+first-from test a zero = record { low = omega arith; high = omega arith; none = λ x h k. absurd (omega arith); some = λ h. absurd (omega arith) }
+first-from test a (suc n) =
+    let ih = first-from test (suc a) n in
+    cond-ind (IsFirst test a (suc n)) (test a)
+    (λ t. record { low = omega arith; high = omega arith; none = λ x h k. absurd (omega arith); some = λ h. t })
+    (λ t.
+    record {
+      low = omega (arith, ih .low);
+      high = omega (arith, ih .high);
+      none = λ x h k. by-cases (ℕ-discrete x a) (λ e. rw e (T-not (test a) t)) (λ e. ih .none x (omega arith) k);
+      some = λ h. ih .some (omega arith);
+    })
+
+-- ---- one past the last of 1 .. n that passes, or `none`
+pub data IsPast (test : ℕ → Bool) (none n r : ℕ) : Type 0 where
+  nobody : r ≡ none → ((x : ℕ) → 1 ≤ x → x ≤ n → ¬ (T (test x))) → IsPast test none n r
+  somebody : (last : ℕ) → r ≡ suc last → 1 ≤ last → last ≤ n → T (test last) → ((x : ℕ) → last < x → x ≤ n → ¬ (T (test x))) → IsPast test none n r
+
+pub past-last : (test : ℕ → Bool) (none n : ℕ) → IsPast test none n (pastLast test none n)
+unfolding pastLast
+past-last test none zero = nobody refl (λ x h k. absurd (omega arith))
+past-last test none (suc n) =
+    cond-ind (IsPast test none (suc n)) (test (suc n))
+    (λ t. somebody (suc n) refl (omega arith) (omega arith) t (λ x h k. absurd (omega arith)))
+    (λ t. longer t (past-last test none n))
+  where
+    fails : T (not (test (suc n))) → (x : ℕ) → x ≤ suc n → ¬ (x ≤ n) → ¬ (T (test x))
+    fails t x h k = let e : x ≡ suc n = omega arith in rw e (T-not (test (suc n)) t)
+
+    longer : {r : ℕ} → T (not (test (suc n))) → IsPast test none n r → IsPast test none (suc n) r
+    longer t (nobody e f) = nobody e (λ x h k. by-cases (decLe x n) (f x h) (fails t x k))
+    longer t (somebody p e a b s f) = somebody p e a (omega arith) s (λ x h k. by-cases (decLe x n) (f x h) (fails t x k))
