@@ -1,0 +1,18 @@
+//! The unchanged Rust of broodmap behind an interface of plain data, with what is needed to ask it:
+//! room texts and case files, and document 01's sheets.
+//!
+//! - [`interface`]: the inputs and outputs of document 01's calls, and the trait of an engine that
+//!   answers them
+//! - [`UnchangedRust`]: the engine that is broodmap's own text
+//! - [`room`], [`sheet`]: text in, text out
+
+mod bases;
+pub mod interface;
+pub mod room;
+pub mod sheet;
+mod terrain;
+
+pub use bases::unchanged::UnchangedRust;
+
+// The names that the unchanged files import from `crate`.
+use terrain::{PixelRect, TerrainGrid, WalkPosition};
