@@ -1,13 +1,14 @@
 //! The unchanged Rust of broodmap behind an interface of plain data, with what is needed to ask it:
-//! room texts and case files, and document 01's sheets.
+//! room texts and case files, document 01's sheets, and maps from a seed.
 //!
 //! - [`interface`]: the inputs and outputs of document 01's calls, and the trait of an engine that
 //!   answers them
 //! - [`UnchangedRust`]: the engine that is broodmap's own text
-//! - [`room`], [`sheet`]: text in, text out
+//! - [`room`], [`sheet`], [`maps`]: text in, text out, and map generators
 
 mod bases;
 pub mod interface;
+pub mod maps;
 pub mod room;
 pub mod sheet;
 mod terrain;
