@@ -1,9 +1,9 @@
 //! What the unchanged files lean on from broodmap's `lib.rs` and `obstacles.rs`.
 //!
-//! `WalkPosition`, `TerrainCell` and `TerrainGrid` with `width`, `height`, `cells`, `cell` and
-//! `index` are taken from `broodmap-analysis/src/lib.rs`. A cell keeps all four of its members, so
-//! that it takes the same room in memory. `PixelRect` is not in the published text: its four
-//! members are those that the unchanged files read, with document 01's meaning.
+//! `WalkPosition`, `TerrainCell` and `TerrainGrid` with `width`, `height`, `cells`, `cell`, `index`
+//! and `position` are taken from `broodmap-analysis/src/lib.rs`. A cell keeps all four of its
+//! members, so that it takes the same room in memory. `PixelRect` is not in the published text: its
+//! four members are those that the unchanged files read, with document 01's meaning.
 
 /// An 8-pixel walk-cell coordinate.
 #[derive(Debug, Copy, Clone, Eq, PartialEq)]
