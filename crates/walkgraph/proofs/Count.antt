@@ -1,6 +1,6 @@
 -- The start values are sound, the sweep count is unique and at most 2 x reach + 1, and after the counted sweeps each lane is the field.
 use mathlib.Core.Path.{_≡_, _∙_, ap}
-use mathlib.Core.Bool.{Bool, cond, _&&_}
+use mathlib.Core.Bool.{Bool, cond}
 use mathlib.Core.List.{List, []}
 use Prim.Native.Nat.{ℕ, zero, suc, _+_, _*_, _-_, _≤_, _<_}
 use native.Mathlib.Omega.{arith}
@@ -11,16 +11,25 @@ use Rattle.walkgraph.specs.Lists.{tabulate}
 use Rattle.walkgraph.specs.Lanes.{cap, unreachable}
 use Rattle.walkgraph.specs.Walk.{here}
 use Rattle.walkgraph.specs.Field.{WalkCosts}
-use Rattle.walkgraph.specs.Sweep.{PaddedWindow, readRow, valueAt, written, sweeps, Quiet, IsCount, startTable}
+use Rattle.walkgraph.specs.Sweep.{PaddedWindow, readRow, valueAt, written, sweeps, Quiet, IsCount, startTable, starts}
 use Rattle.walkgraph.proofs.Tests.{cond-ind, cond-true, and-left, and-right, and-pair, by-cases}
 use Rattle.walkgraph.proofs.Lists.{getD-tabulate, length-tabulate}
 use Rattle.walkgraph.proofs.Values.{Capped}
 use Rattle.walkgraph.proofs.Sweeps.{Walkable, Allowed, PaddingShut, written-in, Sound, quiet-field, quiet-last, twice, twice-is}
 
--- ---- the start is good
+-- ---- the start is sound
 module _ (m : PaddedWindow) (p : PaddingShut m) (source : ℕ → ℕ → Bool) where
+  -- a lane starts at its sources that are written, and nowhere else
+  starts-written : (x y : ℕ) → T (starts m source x y) → Allowed m x y × T (source x y)
+  unfolding starts
+  starts-written x y t = (and-left (written m x y) (source x y) t, and-right (written m x y) (source x y) t)
+
+  written-starts : (x y : ℕ) → Allowed m x y → T (source x y) → T (starts m source x y)
+  unfolding starts
+  written-starts x y o f = and-pair (written m x y) (source x y) o f
+
   abbrev rowF : ℕ → ℕ → ℕ
-  rowF y x = cond (written m x y && source x y) 0 (unreachable (m .reach))
+  rowF y x = cond (starts m source x y) 0 (unreachable (m .reach))
 
   started-at : (x y : ℕ) → x < m .width + 2 → y < m .height + 2 → valueAt m (startTable m source) x y ≡ rowF y x
   unfolding startTable
@@ -48,16 +57,16 @@ module _ (m : PaddedWindow) (p : PaddingShut m) (source : ℕ → ℕ → Bool) 
   pub start-sound : Sound m (λ x y. T (source x y)) (startTable m source)
   start-sound =
       record {
-        top = λ x y. started-ind (λ v. v ≤ unreachable (m .reach)) x y (cond-ind (λ v. v ≤ unreachable (m .reach)) (written m x y && source x y) (λ t. omega arith) (λ t. omega arith)) (omega arith);
+        top = λ x y. started-ind (λ v. v ≤ unreachable (m .reach)) x y (cond-ind (λ v. v ≤ unreachable (m .reach)) (starts m source x y) (λ t. omega arith) (λ t. omega arith)) (omega arith);
         real = λ x y.
             started-ind (λ v. v ≤ cap (m .reach) → WalkCosts (Walkable m) (Allowed m) (λ x y. T (source x y)) x y v) x y
-            (cond-ind (λ v. v ≤ cap (m .reach) → WalkCosts (Walkable m) (Allowed m) (λ x y. T (source x y)) x y v) (written m x y && source x y)
-            (λ t h. record { a = x; b = y; steps = 0; source = and-right (written m x y) (source x y) t; walk = here (and-left (written m x y) (source x y) t) })
+            (cond-ind (λ v. v ≤ cap (m .reach) → WalkCosts (Walkable m) (Allowed m) (λ x y. T (source x y)) x y v) (starts m source x y)
+            (λ t h. let s = starts-written x y t in record { a = x; b = y; steps = 0; source = s .1; walk = here (s .0) })
             (λ t h. absurd (omega arith)))
             (λ h. absurd (omega arith));
         start = λ x y f o.
             let i = written-in m p x y o in
-            started-at x y (omega arith) (omega arith) ∙ cond-true (written m x y && source x y) 0 (unreachable (m .reach)) (and-pair (written m x y) (source x y) o f);
+            started-at x y (omega arith) (omega arith) ∙ cond-true (starts m source x y) 0 (unreachable (m .reach)) (written-starts x y o f);
       }
 
 -- ---- the count is at most 2 x reach + 1

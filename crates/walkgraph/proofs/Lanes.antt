@@ -1,16 +1,16 @@
 -- The lane bridge: lanes order as half costs do, a step on lanes saturates where a cost passes the cap, and 0, the cap and unreachable are where document 01 puts
 -- them. All of it is proved over the bias b, where unreachable is b + 32,767.
 use mathlib.Core.Path.{_≡_, refl, sym, _∙_, ap}
+use mathlib.Core.Bool.{not}
 use Prim.Native.Nat.{ℕ, suc, _+_, _-_, _≤_, _<_, min}
 use native.Mathlib.Omega.{arith}
 use native.Mathlib.Nat.{min-eq-left, min-eq-right}
 use native.Mathlib.Decide.{decLe}
 use lib.IntN.{pos, negsuc, _+ℤ_}
 use lib.Signed.{leZ, ltZ, mag}
-use lib.Dec.{leb, ltb, le→leb}
-use lib.Arith.{lt→nleb}
+use lib.Dec.{T, leb, ltb, leb→le, nleb→lt}
 use Rattle.walkgraph.specs.Lanes.{cap, unreachable, bias, laneOf, halfCostOf, laneStep}
-use Rattle.walkgraph.proofs.Tests.{by-cases, leb-eq, leb-true, leb-false, cond-true, cond-false}
+use Rattle.walkgraph.proofs.Tests.{by-cases, leb-eq, leb-true, leb-false, cond-ind}
 use Rattle.walkgraph.proofs.Signed.{subℕ-neg, subℕ-pos, subℕ-eq}
 
 module _ (b : ℕ) where
@@ -71,18 +71,20 @@ module _ (b : ℕ) where
   pub lane-top : laneOf b (b + 32767) ≡ pos 32767
   lane-top = high (b + 32767) (omega arith) ∙ ap pos (omega arith)
 
+  lane-within : (v : ℕ) → T (leZ (laneOf b v) (pos 32767)) → v ≤ b + 32767
+  lane-within v t = leb→le v (b + 32767) (rw (← lane-top, lane-le v (b + 32767)) at t)
+
+  lane-past : (v : ℕ) → T (not (leZ (laneOf b v) (pos 32767))) → b + 32767 < v
+  lane-past v t = nleb→lt v (b + 32767) (rw (← lane-top, lane-le v (b + 32767)) at t)
+
   -- a step on a lane is the step on its half cost, as far as unreachable
   pub lane-step : (v k : ℕ) → laneStep (laneOf b v) k ≡ laneOf b (min (v + k) (b + 32767))
   unfolding laneStep
   lane-step v k =
-      let e : laneOf b v +ℤ pos k ≡ laneOf b (v + k) = lane-add v k in
-      let f : leZ (laneOf b (v + k)) (pos 32767) ≡ leb (v + k) (b + 32767) = rw (← lane-top) (lane-le (v + k) (b + 32767)) in
-      by-cases (decLe (v + k) (b + 32767))
-      (λ h. rw (e, f, min-eq-left h) (cond-true (leb (v + k) (b + 32767)) (laneOf b (v + k)) (pos 32767) (le→leb (v + k) (b + 32767) h)))
-      (λ h.
-      let i : b + 32767 < v + k = omega arith in
-      let j : b + 32767 ≤ v + k = omega arith in
-      rw (e, f, min-eq-right j) (cond-false (leb (v + k) (b + 32767)) (laneOf b (v + k)) (pos 32767) (lt→nleb (v + k) (b + 32767) i) ∙ sym lane-top))
+      rw (lane-add v k)
+      (cond-ind (λ z. z ≡ laneOf b (min (v + k) (b + 32767))) (leZ (laneOf b (v + k)) (pos 32767))
+      (λ t. ap (laneOf b) (sym (min-eq-left (lane-within (v + k) t))))
+      (λ t. let h : b + 32767 ≤ v + k = omega (arith, lane-past (v + k) t) in sym (ap (laneOf b) (min-eq-right h) ∙ lane-top)))
 
 -- ---- the reaches for which an i16 will do, and document 01's numbers under reach 96 and 128
 pub record LaneRules (reach : ℕ) : Type 0 where

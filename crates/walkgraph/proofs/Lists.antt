@@ -66,7 +66,7 @@ unfolding pastLast
 past-last test none zero = nobody refl (λ x h k. absurd (omega arith))
 past-last test none (suc n) =
     cond-ind (IsPast test none (suc n)) (test (suc n))
-    (λ t. somebody (suc n) refl (omega arith) (omega arith) t (λ x h k. absurd (omega arith)))
+    (λ t. somebody (suc n) (omega arith) (omega arith) (omega arith) t (λ x h k. absurd (omega arith)))
     (λ t. longer t (past-last test none n))
   where
     fails : T (not (test (suc n))) → (x : ℕ) → x ≤ suc n → ¬ (x ≤ n) → ¬ (T (test x))

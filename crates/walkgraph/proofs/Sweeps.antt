@@ -35,6 +35,15 @@ pub written-in : (m : PaddedWindow) → PaddingShut m → (x y : ℕ) → Allowe
 unfolding written PaddingShut
 written-in m p x y t = p x y (and-left (m .walkable x y) (m .inside x y) t)
 
+-- the corner rule of the sweeps is that of the walk graph
+corner-sides : (m : PaddedWindow) (x y u z : ℕ) → T (corner m x y u z) → Walkable m u y × Walkable m x z
+unfolding corner
+corner-sides m x y u z c = (and-left (m .walkable u y) (m .walkable x z) c, and-right (m .walkable u y) (m .walkable x z) c)
+
+corner-open : (m : PaddedWindow) (x y u z : ℕ) → Walkable m u y → Walkable m x z → T (corner m x y u z)
+unfolding corner
+corner-open m x y u z a b = and-pair (m .walkable u y) (m .walkable x z) a b
+
 -- ---- places
 place-place : (m : PaddedWindow) (d : Direction) (y : ℕ) → y ≤ m .height + 1 → place m d (place m d y) ≡ y
 unfolding place
@@ -134,7 +143,7 @@ module _ (m : PaddedWindow) (p : PaddingShut m) (d : Direction) (t : List (List 
     Z = place m d j
 
     row-edge : {x u k : ℕ} → Allowed m u Y → View (Walkable m) x Z u Y k → distance Z Y ≡ 1 → readRow m (S (suc j)) u ≤ readRow m (S j) x + k
-    unfolding swept grown sweptStep distance corner
+    unfolding swept grown sweptStep distance
     row-edge o (rightwards e f c) g = absurd (omega arith)
     row-edge o (leftwards e f c) g = absurd (omega arith)
     row-edge {x} {u} o (upright e f c) g =
@@ -142,11 +151,11 @@ module _ (m : PaddedWindow) (p : PaddingShut m) (d : Direction) (t : List (List 
         omega (arith, R.row-upright m Y Z (S j) (old (suc j)) u (i .0) (i .1) o, ap (readRow m (S j)) e)
     row-edge {x} {u} o (west e f c a b) g =
         let i = written-in m p _ _ o in
-        let r = R.row-west m Y Z (S j) (old (suc j)) x (omega arith) (rw e at o) (and-pair (m .walkable x Y) (m .walkable (suc x) Z) a (rw e at b)) in
+        let r = R.row-west m Y Z (S j) (old (suc j)) x (omega arith) (rw e at o) (corner-open m (suc x) Y x Z a (rw e at b)) in
         omega (arith, r, ap (readRow m (S (suc j))) e)
     row-edge {x} {u} o (east e f c a b) g =
         let i = written-in m p _ _ o in
-        let r = R.row-slant m Y Z (S j) (old (suc j)) u (i .0) (i .1) o (and-pair (m .walkable (suc u) Y) (m .walkable u Z) (rw e at a) b) in
+        let r = R.row-slant m Y Z (S j) (old (suc j)) u (i .0) (i .1) o (corner-open m u Y (suc u) Z (rw e at a) b) in
         omega (arith, r, ap (readRow m (S j)) e)
 
     along-edge : {x u k : ℕ} → Allowed m u Y → View (Walkable m) x Y u Y k → readRow m (S (suc j)) u ≤ readRow m (S (suc j)) x + k
@@ -206,7 +215,7 @@ module _ (m : PaddedWindow) (p : PaddingShut m) (Source : ℕ → ℕ → Type 0
     S-real-in : (i : ℕ) → suc i ≤ m .height + 1 → ((x : ℕ) → readRow m (swept m d t i) x ≤ cap (m .reach) → WalkCosts (Walkable m) (Allowed m) Source x (place m d i) (readRow m (swept m d t i) x)) →
         (x : ℕ) → x ≤ m .width + 1 → readRow m (swept m d t (suc i)) x ≤ cap (m .reach) →
         WalkCosts (Walkable m) (Allowed m) Source x (place m d (suc i)) (readRow m (swept m d t (suc i)) x)
-    unfolding swept grown sweptStep distance corner
+    unfolding swept grown sweptStep distance
     S-real-in i h ih =
         let y = place m d (suc i) in
         let z = place m d i in
@@ -215,8 +224,8 @@ module _ (m : PaddedWindow) (p : PaddingShut m) (Source : ℕ → ℕ → Type 0
         (λ x v. WalkCosts (Walkable m) (Allowed m) Source x y v)
         (λ x k. g .real x y k)
         (λ x o k. extend (ih (suc x) k) (straight (omega arith)) o)
-        (λ x o c k. extend (ih x k) (diagonal (omega arith) n (and-left (m .walkable x y) (m .walkable (suc x) z) c) (and-right (m .walkable x y) (m .walkable (suc x) z) c)) o)
-        (λ x o c k. extend (ih (suc (suc x)) k) (diagonal (omega arith) n (and-left (m .walkable (suc (suc x)) y) (m .walkable (suc x) z) c) (and-right (m .walkable (suc (suc x)) y) (m .walkable (suc x) z) c)) o)
+        (λ x o c k. extend (ih x k) (diagonal (omega arith) n (corner-sides m (suc x) y x z c .0) (corner-sides m (suc x) y x z c .1)) o)
+        (λ x o c k. extend (ih (suc (suc x)) k) (diagonal (omega arith) n (corner-sides m (suc x) y (suc (suc x)) z c .0) (corner-sides m (suc x) y (suc (suc x)) z c .1)) o)
         (λ x v o k r. extend r (straight (omega arith)) o)
         (λ x v o k r. extend r (straight (omega arith)) o)
 
@@ -280,7 +289,7 @@ module _ (m : PaddedWindow) (p : PaddingShut m) (Source : ℕ → ℕ → Type 0
 
     row-quiet : (i : ℕ) → i ≤ m .height → Closed m d t → ((x : ℕ) → x ≤ m .width + 1 → readRow m (swept m d t i) x ≡ valueAt m t x (place m d i)) →
         R.RowQuiet m (place m d (suc i)) (place m d i) (swept m d t i) (getD t (place m d (suc i)) [])
-    unfolding distance corner
+    unfolding distance
     row-quiet i h f ih =
         let y = place m d (suc i) in
         let z = place m d i in
@@ -290,10 +299,10 @@ module _ (m : PaddedWindow) (p : PaddingShut m) (Source : ℕ → ℕ → Type 0
           straight = λ x o. let b = written-in m p _ _ o in omega (arith, any-edge {x = suc x} f o (straight (omega arith)) l, ih (suc x) (omega arith));
           west = λ x o c.
               let b = written-in m p _ _ o in
-              omega (arith, any-edge {x = x} f o (diagonal (omega arith) n (and-left (m .walkable x y) (m .walkable (suc x) z) c) (and-right (m .walkable x y) (m .walkable (suc x) z) c)) l, ih x (omega arith));
+              omega (arith, any-edge {x = x} f o (diagonal (omega arith) n (corner-sides m (suc x) y x z c .0) (corner-sides m (suc x) y x z c .1)) l, ih x (omega arith));
           east = λ x o c.
               let b = written-in m p _ _ o in
-              omega (arith, any-edge {x = suc (suc x)} f o (diagonal (omega arith) n (and-left (m .walkable (suc (suc x)) y) (m .walkable (suc x) z) c) (and-right (m .walkable (suc (suc x)) y) (m .walkable (suc x) z) c)) l, ih (suc (suc x)) (omega arith));
+              omega (arith, any-edge {x = suc (suc x)} f o (diagonal (omega arith) n (corner-sides m (suc x) y (suc (suc x)) z c .0) (corner-sides m (suc x) y (suc (suc x)) z c .1)) l, ih (suc (suc x)) (omega arith));
           left = λ x o. any-edge {x = x} f o (straight (omega arith)) (same refl);
           right = λ x o. any-edge {x = suc x} f o (straight (omega arith)) (same refl);
           top = λ x. g .top x y;

@@ -1,12 +1,11 @@
 -- The window's edges: each is the floor of half a signed sum, clamped to the map; and every inside cell of the map is in the window.
-use mathlib.Core.Path.{_≡_, refl, sym, _∙_, ap}
-use mathlib.Core.Bool.{Bool}
-use Prim.Native.Nat.{ℕ, zero, suc, _+_, _*_, _-_, _/_, _≤_, _<_, min}
+use mathlib.Core.Path.{_≡_, refl}
+use Prim.Native.Nat.{ℕ, suc, _+_, _*_, _-_, _/_, _≤_, _<_, min}
 use native.Mathlib.Omega.{arith}
 use native.Mathlib.Decide.{decLe}
-use lib.IntN.{ℤ, pos, negsuc, _+ℤ_, subℕ}
+use lib.IntN.{ℤ, pos, negsuc, _+ℤ_}
 use lib.Signed.{leZ, ltZ}
-use lib.Dec.{T, leb, ltb, leb→le, le→leb, lt→ltb}
+use lib.Dec.{T, leb→le, le→leb, lt→ltb}
 use Rattle.walkgraph.specs.Map.{Box, In}
 use Rattle.walkgraph.specs.Window.{floorHalf, orZero, windowLow, windowHigh, window, gap, octileGap, Inside, inside}
 use Rattle.walkgraph.proofs.Tests.{by-cases}
@@ -18,18 +17,25 @@ pub record IsFloorHalf (z half : ℤ) : Type 0 where
   pub low : T (leZ (half +ℤ half) z)
   pub high : T (ltZ z (half +ℤ half +ℤ pos 2))
 
+floor-positive : (n half : ℕ) → half + half ≤ n → n < half + half + 2 → IsFloorHalf (pos n) (pos half)
+floor-positive n half h k = record { low = le→leb (half + half) n h; high = lt→ltb n (half + half + 2) k }
+
+-- -1 - half is the floor of half of -1 - n
+floor-negative : (n half : ℕ) → half + half ≤ n → n < half + half + 2 → IsFloorHalf (negsuc n) (negsuc half)
+floor-negative n half h k =
+    record {
+      low = le→leb n (suc (half + half)) (omega arith);
+      high = by-cases (decLe (suc (suc (half + half))) 2)
+          (λ i. rw (subℕ-pos 2 (suc (suc (half + half))) i) tt)
+          (λ i.
+          let j : 2 < suc (suc (half + half)) = omega arith in
+          rw (subℕ-neg 2 (suc (suc (half + half))) j) (lt→ltb (suc (suc (half + half)) - 3) n (omega arith)));
+    }
+
 pub floor-half : (z : ℤ) → IsFloorHalf z (floorHalf z)
 unfolding floorHalf
-floor-half (pos n) = record { low = le→leb (n / 2 + n / 2) n (omega arith); high = lt→ltb n (n / 2 + n / 2 + 2) (omega arith) }
-floor-half (negsuc n) =
-    record {
-      low = le→leb n (suc (n / 2 + n / 2)) (omega arith);
-      high = by-cases (decLe (suc (suc (n / 2 + n / 2))) 2)
-          (λ h. rw (subℕ-pos 2 (suc (suc (n / 2 + n / 2))) h) tt)
-          (λ h.
-          let k : 2 < suc (suc (n / 2 + n / 2)) = omega arith in
-          rw (subℕ-neg 2 (suc (suc (n / 2 + n / 2))) k) (lt→ltb (suc (suc (n / 2 + n / 2)) - 3) n (omega arith)));
-    }
+floor-half (pos n) = floor-positive n _ (omega arith) (omega arith)
+floor-half (negsuc n) = floor-negative n _ (omega arith) (omega arith)
 
 -- the edges in natural numbers: a sum below 0 and its half are both replaced by 0
 pub window-low : (reach s t : ℕ) → windowLow reach s t ≡ (s + t - reach) / 2

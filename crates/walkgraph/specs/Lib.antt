@@ -10,3 +10,4 @@ pub mod Field
 pub mod Sweep
 pub mod Links
 pub mod Buffers
+pub mod Refusals

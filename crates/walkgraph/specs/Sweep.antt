@@ -48,9 +48,13 @@ readRow m row x = getD row x (unreachable (m .reach))
 abbrev pub valueAt : PaddedWindow → List (List ℕ) → ℕ → ℕ → ℕ
 valueAt m table x y = readRow m (getD table y []) x
 
--- before the first sweep: 0 at the written cells that are a source of the lane. A source that is not walkable, or not inside, starts nothing.
+-- "from an inside, walkable ring cell": a source that is not walkable, or not inside, starts nothing
+unfoldable pub starts : PaddedWindow → (ℕ → ℕ → Bool) → ℕ → ℕ → Bool
+starts m source x y = written m x y && source x y
+
+-- before the first sweep: 0 where the lane starts
 unfoldable pub startTable : PaddedWindow → (ℕ → ℕ → Bool) → List (List ℕ)
-startTable m source = tabulate (m .height + 2) (λ y. tabulate (m .width + 2) (λ x. cond (written m x y && source x y) 0 (unreachable (m .reach))))
+startTable m source = tabulate (m .height + 2) (λ y. tabulate (m .width + 2) (λ x. cond (starts m source x y) 0 (unreachable (m .reach))))
 
 -- ---- one row
 
