@@ -1,4 +1,4 @@
--- (f) Inside cells of a row are consecutive. The octile gap to a box is the largest of six forms that are linear in the column, each with a slope of a fixed
+-- Inside cells of a row are consecutive. The octile gap to a box is the largest of six forms that are linear in the column, each with a slope of a fixed
 -- sign: so is the sum of two. Between two columns such a form is at most its value at one of the two.
 use mathlib.Core.Path.{_≡_}
 use Prim.Native.Nat.{ℕ, _+_, _*_, _-_, _≤_}

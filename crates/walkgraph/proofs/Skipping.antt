@@ -168,7 +168,7 @@ module _ {m : PaddedWindow} (p : PaddingShut m) {n : ℕ} {cur cur′ : ℕ → 
   pub relax-fresh : Fresh m n cur′ ver′ pul′ never
   relax-fresh = record { small = new-small; past = new-past; quiet = new-quiet; top = new-top }
 
--- the same as lists, where rows have the room's width and padding
+-- the same as lists, where rows have the window's width and padding
 pub skip-row : {m : PaddedWindow} {n : ℕ} {cur : ℕ → ℕ → List ℕ} {ver : ℕ → ℕ} {pul : Direction → ℕ → ℕ} {never : ℕ} → Fresh m n cur ver pul never →
     (d : Direction) (z y : ℕ) → Feeds d z y → pul d y ≡ ver z → (l : ℕ) → l < n → length (cur l y) ≡ m .width + 2 → relaxed m y z (cur l z) (cur l y) ≡ cur l y
 skip-row {m} {n} {cur} f d z y e h l k w =

@@ -20,7 +20,7 @@ use Rattle.walkgraph.proofs.Values.{Capped}
 use Rattle.walkgraph.proofs.Settled.{Settled, settled-field}
 use Rattle.walkgraph.proofs.RelaxedRow as R
 
--- the walk graph of a room
+-- the walk graph of a padded window
 abbrev pub Walkable : PaddedWindow → ℕ → ℕ → Type 0
 Walkable m x y = T (m .walkable x y)
 
@@ -101,12 +101,9 @@ view {Walkable} {x} {y} {u} {v} (diagonal e f p q) = go (decLe x u)
 by-place : (m : PaddedWindow) (d : Direction) (P : ℕ → Type 0) → ((i : ℕ) → i ≤ m .height + 1 → P (place m d i)) → (y : ℕ) → y ≤ m .height + 1 → P y
 by-place m d P f y h = subst P (place-place m d y h) (f (place m d y) (place-le m d y h))
 
--- a row is read as unreachable past its end
-read-out : (m : PaddedWindow) (r : List ℕ) (x : ℕ) → length r ≤ x → readRow m r x ≡ unreachable (m .reach)
-read-out m r x h = List·getD-eq-default r (unreachable (m .reach)) h
-
-cell-out : (m : PaddedWindow) (t : List (List ℕ)) (x y : ℕ) → length t ≤ y → valueAt m t x y ≡ unreachable (m .reach)
-cell-out m t x y h = rw (List·getD-eq-default t [] h)
+-- a table is read as unreachable past its end
+table-out : (m : PaddedWindow) (t : List (List ℕ)) (x y : ℕ) → length t ≤ y → valueAt m t x y ≡ unreachable (m .reach)
+table-out m t x y h = rw (List·getD-eq-default t [] h)
 
 module _ (m : PaddedWindow) (p : PaddingShut m) (d : Direction) (t : List (List ℕ)) where
   abbrev S : ℕ → List ℕ
@@ -251,7 +248,7 @@ module _ (m : PaddedWindow) (p : PaddingShut m) (Source : ℕ → ℕ → Type 0
     unfolding sweep
     sweep-out x y h =
         let rows = grow (m .height + 2) (getD t (place m d zero) []) (sweptStep m d t) in
-        cell-out m (tabulate (m .height + 2) (λ y. getD rows (place m d y) [])) x y (omega (arith, length-tabulate (m .height + 2) (λ y. getD rows (place m d y) [])))
+        table-out m (tabulate (m .height + 2) (λ y. getD rows (place m d y) [])) x y (omega (arith, length-tabulate (m .height + 2) (λ y. getD rows (place m d y) [])))
 
     pub sweep-top : (x y : ℕ) → valueAt m (sweep m d t) x y ≤ unreachable (m .reach)
     sweep-top x y =
