@@ -40,7 +40,7 @@ module _ (m : PaddedWindow) (y z : ℕ) (feed old : List ℕ) where
   back-at d h = getD-grow (m .width + 2) (readRow m out (m .width + 1)) _ (unreachable (m .reach)) d (omega arith)
 
   -- the row's values are those of the two passes
-  relaxed-at : (x : ℕ) → x ≤ m .width + 1 → readRow m (relaxed m y z feed old) x ≡ Passes.afterBoth (m .width) (m .reach) okY (cornerWest m y z) (cornerEast m y z) (readRow m feed) (readRow m old) x
+  pub relaxed-at : (x : ℕ) → x ≤ m .width + 1 → readRow m (relaxed m y z feed old) x ≡ Passes.afterBoth (m .width) (m .reach) okY (cornerWest m y z) (cornerEast m y z) (readRow m feed) (readRow m old) x
   unfolding relaxed
   relaxed-at x h =
       getD-tabulate (m .width + 2) (λ x. readRow m back (m .width + 1 - x)) (unreachable (m .reach)) x (omega arith)

@@ -51,20 +51,32 @@ module _ (width reach : ℕ) (ok westOpen eastOpen : ℕ → Bool) (feed old : �
   afterBoth x = leftward width ok afterOut (width + 1 - x)
 
   -- the right padding
-  new-last : afterBoth (width + 1) ≡ afterOut (width + 1)
+  pub both-last : afterBoth (width + 1) ≡ afterOut (width + 1)
   unfolding leftward grown leftStep
-  new-last = let e : width + 1 - (width + 1) ≡ 0 = omega arith in ap (leftward width ok afterOut) e
+  both-last = let e : width + 1 - (width + 1) ≡ 0 = omega arith in ap (leftward width ok afterOut) e
 
-  new-step : (x : ℕ) → x ≤ width → afterBoth x ≡ cond (ok x) (min (afterOut x) (afterBoth (suc x) + 500)) (afterOut x)
+  pub both-step : (x : ℕ) → x ≤ width → afterBoth x ≡ cond (ok x) (min (afterOut x) (afterBoth (suc x) + 500)) (afterOut x)
   unfolding leftward grown leftStep
-  new-step x h =
+  both-step x h =
       let e : width + 1 - x ≡ suc (width - x) = omega arith in
       let f : width - (width - x) ≡ x = omega arith in
       let g : width - x ≡ width + 1 - suc x = omega arith in
       ap (leftward width ok afterOut) e ∙ rw (f, g)
 
+  -- the way out, cell by cell
+  pub out-first : afterOut zero ≡ old zero
+  unfolding rightward grown
+  out-first = refl
+
+  pub out-step : (x : ℕ) → afterOut (suc x) ≡
+      cond (ok (suc x))
+      (leastOfFive (old (suc x)) (feed (suc x) + 500) (diagonalFrom (unreachable reach) (westOpen (suc x)) (feed x)) (diagonalFrom (unreachable reach) (eastOpen (suc x)) (feed (suc (suc x)))) (afterOut x + 500))
+      (old (suc x))
+  unfolding rightward grown rightStep
+  out-step x = refl
+
   -- ---- what the pass to the right leaves
-  out-fall : (x : ℕ) → afterOut x ≤ old x
+  pub out-fall : (x : ℕ) → afterOut x ≤ old x
   unfolding rightward grown rightStep
   out-fall zero = omega arith
   out-fall (suc x) =
@@ -82,22 +94,22 @@ module _ (width reach : ℕ) (ok westOpen eastOpen : ℕ → Bool) (feed old : �
   N-F x h = go (decLe x (width))
     where
       go : Dec (x ≤ width) → afterBoth x ≤ afterOut x
-      go (yes k) = rw (new-step x k) (cond-ind (λ v. v ≤ afterOut x) (ok x) (λ t. omega arith) (λ t. omega arith))
-      go (no k) = let e : x ≡ width + 1 = omega arith in rw e (omega (arith, new-last))
+      go (yes k) = rw (both-step x k) (cond-ind (λ v. v ≤ afterOut x) (ok x) (λ t. omega arith) (λ t. omega arith))
+      go (no k) = let e : x ≡ width + 1 = omega arith in rw e (omega (arith, both-last))
 
   pub row-fall : (x : ℕ) → x ≤ width + 1 → afterBoth x ≤ old x
   row-fall x h = omega (arith, N-F x h, out-fall x)
 
   -- from the right
   pub row-right : (x : ℕ) → x ≤ width → T (ok x) → afterBoth x ≤ afterBoth (suc x) + 500
-  row-right x h t = omega (arith, new-step x h, cond-true (ok x) (min (afterOut x) (afterBoth (suc x) + 500)) (afterOut x) t)
+  row-right x h t = omega (arith, both-step x h, cond-true (ok x) (min (afterOut x) (afterBoth (suc x) + 500)) (afterOut x) t)
 
   -- from the left
   pub row-left : (x : ℕ) → x ≤ width → T (ok (suc x)) → afterBoth (suc x) ≤ afterBoth x + 500
   row-left x h t =
       let a = out-ok x t .e≥ in
       let b = N-F (suc x) (omega arith) in
-      rw (new-step x h) (cond-ind (λ v. afterBoth (suc x) ≤ v + 500) (ok x) (λ u. omega arith) (λ u. omega arith))
+      rw (both-step x h) (cond-ind (λ v. afterBoth (suc x) ≤ v + 500) (ok x) (λ u. omega arith) (λ u. omega arith))
 
   -- from the row before
   pub row-straight : (x : ℕ) → x ≤ width → T (ok (suc x)) → afterBoth (suc x) ≤ feed (suc x) + 500
@@ -150,10 +162,10 @@ module _ (width reach : ℕ) (ok westOpen eastOpen : ℕ → Bool) (feed old : �
 
       -- by the number of columns to the right padding
       row-real-by : (d x : ℕ) → x + d ≡ width + 1 → afterBoth x ≤ cap reach → P x (afterBoth x)
-      row-real-by zero x e = let f : x ≡ width + 1 = omega arith in rw (f, new-last) (out-real (width + 1))
+      row-real-by zero x e = let f : x ≡ width + 1 = omega arith in rw (f, both-last) (out-real (width + 1))
       row-real-by (suc d) x e =
           let ih = row-real-by d (suc x) (omega arith) in
-          rw (new-step x (omega arith))
+          rw (both-step x (omega arith))
           (cond-ind (λ v. v ≤ cap reach → P x v) (ok x)
           (λ t. min-ind (λ v. v ≤ cap reach → P x v) _ _ (out-real x) (λ h. right x _ t (omega arith) (ih (omega arith))))
           (λ t. out-real x))
@@ -185,11 +197,11 @@ module _ (width reach : ℕ) (ok westOpen eastOpen : ℕ → Bool) (feed old : �
       (λ t. refl)
 
   row-quiet-by : RowQuiet → (d x : ℕ) → x + d ≡ width + 1 → afterBoth x ≡ old x
-  row-quiet-by q zero x e = let f : x ≡ width + 1 = omega arith in rw (f, new-last) (out-quiet q (width + 1))
+  row-quiet-by q zero x e = let f : x ≡ width + 1 = omega arith in rw (f, both-last) (out-quiet q (width + 1))
   row-quiet-by q (suc d) x e =
       let ih = row-quiet-by q d (suc x) (omega arith) in
       let a = out-quiet q x in
-      rw (new-step x (omega arith))
+      rw (both-step x (omega arith))
       (cond-ind (λ v. v ≡ old x) (ok x) (λ t. omega (arith, q .right x t)) (λ t. a))
 
   pub row-quiet : RowQuiet → (x : ℕ) → x ≤ width + 1 → afterBoth x ≡ old x
