@@ -8,17 +8,11 @@ use native.Mathlib.Decide.{decLe}
 use lib.ListN.{getD}
 use lib.Dec.{T, leb, ltb, leb→le, ltb→lt}
 use Rattle.walkgraph.specs.Lists.{tabulate}
-use Rattle.walkgraph.specs.Lanes.{cap, unreachable}
-use Rattle.walkgraph.specs.Painting.{rectangle}
-use Rattle.walkgraph.specs.Ring.{ring}
 use Rattle.walkgraph.specs.Sweep.{PaddedWindow, valueAt, sweeps, Quiet}
-use Rattle.walkgraph.specs.Buffers.{Call, resourceCount, sourceBox, unblocked, windowOf, paddedOf, startsLane, laneStart, CountIs}
+use Rattle.walkgraph.specs.Buffers.{Call, resourceCount, paddedOf, laneStart, CountIs}
 use Rattle.walkgraph.proofs.Tests.{and-left, and-right, by-cases}
 use Rattle.walkgraph.proofs.Lists.{getD-tabulate}
-use Rattle.walkgraph.proofs.Sweeps.{PaddingShut, Sound, sweeps-sound}
-use Rattle.walkgraph.proofs.Maps.{painted-cell}
-use Rattle.walkgraph.proofs.Count.{start-sound}
-use Rattle.walkgraph.proofs.OnMap as OnMap
+use Rattle.walkgraph.proofs.FieldCall.{unused-lane}
 use Rattle.mapstotry.proofs.Tests.{every, every-at, some, some-at}
 use Rattle.mapstotry.proofs.Runs.{history, history-at, sameTable, table-is, tablesDiffer, tables-differ}
 
@@ -57,36 +51,6 @@ module _ (c : Call) where
   abbrev M : PaddedWindow
   M = paddedOf c
 
-  -- the cells where lane l starts, seen from the window
-  abbrev pub Source : ℕ → ℕ → ℕ → Type 0
-  Source l x y = T (startsLane c l (windowOf c .left + x - 1) (windowOf c .top + y - 1))
-
-  -- unblocked cells are on the map, the window's padding is not walkable, and the start of each lane is sound
-  pub on-map : (x y : ℕ) → T (unblocked c x y) → (x < c .width) × (y < c .height)
-  unfolding unblocked
-  on-map x y t = painted-cell (c .width) (c .height) (c .cells) (c .blockers) x y t
-
-  pub shut : PaddingShut (paddedOf c)
-  unfolding paddedOf
-  shut = OnMap.padding-shut (c .reach) (c .width) (c .height) (unblocked c) on-map (sourceBox c) (c .targets)
-
-  pub lane-sound : (l : ℕ) → Sound M (Source l) (laneStart c l)
-  unfolding laneStart
-  lane-sound l = start-sound M shut (λ x y. startsLane c l (windowOf c .left + x - 1) (windowOf c .top + y - 1))
-
-  -- a lane that starts has a resource
-  lane-resource : (l x y : ℕ) → T (startsLane c l x y) → l < resourceCount c
-  unfolding startsLane
-  lane-resource l x y t = ltb→lt l (resourceCount c) (and-left (ltb l (resourceCount c)) (ring (c .width) (c .height) (rectangle (c .resources) l) x y) t)
-
-  -- no start, always unreachable
-  unused : (l : ℕ) → ¬ (l < resourceCount c) → (k x y : ℕ) → valueAt M (sweeps M (laneStart c l) k) x y ≡ unreachable (M .reach)
-  unused l h k x y =
-      let s = sweeps-sound M shut (Source l) (laneStart c l) (lane-sound l) k in
-      by-cases (decLe (valueAt M (sweeps M (laneStart c l) k) x y) (cap (M .reach)))
-      (λ i. absurd (h (lane-resource l _ _ (s .real x y i .source))))
-      (λ i. omega (arith, s .top x y))
-
   -- what the tests say of the sweeps over all lanes
   pub quiet-is : (k j : ℕ) → j ≤ k → T (quietTest (histories c k) (resourceCount c) j) → Quiet M (laneStart c) (c .lanes) j
   unfolding Quiet quietTest
@@ -95,7 +59,7 @@ module _ (c : Call) where
       (λ u.
       let e = table-is (tableAfter (histories c k) l j) (tableAfter (histories c k) l (j - 1)) (every-at _ (resourceCount c) t l (omega arith)) in
       ap (λ (table : List (List ℕ)). valueAt M table x y) (sym (after-is c k l j (omega arith) h) ∙ e ∙ after-is c k l (j - 1) (omega arith) (omega arith)))
-      (λ u. unused l (omega arith) j x y ∙ sym (unused l (omega arith) (j - 1) x y))
+      (λ u. unused-lane c l (omega arith) j x y ∙ sym (unused-lane c l (omega arith) (j - 1) x y))
 
   pub loud-is : (k j : ℕ) → j ≤ k → resourceCount c ≤ c .lanes → T (loudTest (histories c k) (resourceCount c) j) → ¬ (Quiet M (laneStart c) (c .lanes) j)
   unfolding Quiet loudTest

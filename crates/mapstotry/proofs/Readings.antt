@@ -7,16 +7,15 @@ use native.Mathlib.Omega.{arith}
 use lib.Dec.{T, leb, eqb, leb→le, eqb→eq}
 use Rattle.walkgraph.specs.Lanes.{cap, unreachable}
 use Rattle.walkgraph.specs.Map.{In, inBox}
-use Rattle.walkgraph.specs.Sweep.{valueAt, sweeps, padded}
-use Rattle.walkgraph.specs.Buffers.{Call, resourceCount, sourceBox, unblocked, windowOf, paddedOf, startsLane, laneStart, Value, CountIs}
+use Rattle.walkgraph.specs.Sweep.{valueAt, sweeps}
+use Rattle.walkgraph.specs.Buffers.{Call, resourceCount, windowOf, paddedOf, laneStart, Value, CountIs}
 use Rattle.walkgraph.proofs.Tests.{and-left, and-right}
 use Rattle.walkgraph.proofs.Boxes.{in-box, box-in}
 use Rattle.walkgraph.proofs.Values.{to-field}
-use Rattle.walkgraph.proofs.Count.{count-field}
-use Rattle.walkgraph.proofs.OnMap as OnMap
+use Rattle.walkgraph.proofs.FieldCall.{counted, restricted}
 use Rattle.mapstotry.specs.Table.{Reading, cost, unreached, outside, ReadingIs, Readings, readingAt}
 use Rattle.mapstotry.proofs.Tests.{every, every-at, not-both}
-use Rattle.mapstotry.proofs.Counting.{histories, tableAfter, after-is, Source, on-map, shut, lane-sound}
+use Rattle.mapstotry.proofs.Counting.{histories, tableAfter, after-is}
 
 -- ---- the tests
 
@@ -45,12 +44,8 @@ readingsTest c lanes count readings = every (λ l. laneTest c (tableAfter lanes 
 module _ (c : Call) (k : ℕ) (n : CountIs c k) (l : ℕ) (h : l < c .lanes) (x y : ℕ) where
   -- after the counted sweeps a lane is the field
   value-is : In (windowOf c) x y → (v : ℕ) → valueOnMap c (sweeps (paddedOf c) (laneStart c l) k) x y ≡ v → Value c l x y v
-  unfolding CountIs valueOnMap paddedOf windowOf padded Value
-  value-is i v e =
-      rw (← e)
-      (to-field
-      (OnMap.window-field (c .reach) (c .width) (c .height) (unblocked c) (on-map c) (sourceBox c) (c .targets) (λ x y. T (startsLane c l x y)) x y i
-      (count-field (paddedOf c) (shut c) (Source c) (laneStart c) (lane-sound c) (c .lanes) k n l h (x + 1 - windowOf c .left) (y + 1 - windowOf c .top))))
+  unfolding valueOnMap counted Value
+  value-is i v e = rw (← e) (to-field (restricted c k n l x y h i))
 
   reading-is : (r : Reading) → T (readingTest c (sweeps (paddedOf c) (laneStart c l) k) x y r) → ReadingIs c l x y r
   unfolding readingTest ReadingIs

@@ -10,7 +10,7 @@ use lib.ListN.{getD}
 use lib.Seq.{ext-getD}
 use lib.IntN.{ℤ, pos}
 use lib.Dec.{T, ltb, ltb→lt}
-use Rattle.walkgraph.specs.Lanes.{unreachable, bias, laneOf}
+use Rattle.walkgraph.specs.Lanes.{cap, unreachable, bias, laneOf}
 use Rattle.walkgraph.specs.Map.{Box, In}
 use Rattle.walkgraph.specs.Painting.{rectangle}
 use Rattle.walkgraph.specs.Ring.{ring}
@@ -63,100 +63,115 @@ lanes-one c h d₀ d e p q = ext-getD (pos 0) d e (p .long ∙ sym (q .long)) (�
         subst (λ (z : ℕ). getD d z (pos 0) ≡ getD e z (pos 0)) (o .6) (a .2 ∙ ap (laneOf (bias (c .reach))) f ∙ sym (b .2)))
         (λ k. p .stay i (omega arith) ∙ sym (q .stay i (omega arith)))
 
--- ---- the counted sweeps meet the promise: what is left to the code is that its lanes are the sweeps' values and its count the count
-module _ (c : Call) (k : ℕ) (n : CountIs c k) where
+-- ---- the window of a call
+module _ (c : Call) where
   abbrev W : Box
   W = windowOf c
 
   abbrev M : PaddedWindow
   M = paddedOf c
 
-  -- lane l after the counted sweeps, at the window's column x and row y
-  pub counted : ℕ → ℕ → ℕ → ℕ
-  counted l x y = valueAt M (sweeps M (laneStart c l) k) x y
-
-  on-map : (x y : ℕ) → T (unblocked c x y) → (x < c .width) × (y < c .height)
+  -- unblocked cells are on the map, and the padding is not walkable
+  pub on-map : (x y : ℕ) → T (unblocked c x y) → (x < c .width) × (y < c .height)
   unfolding unblocked
   on-map x y t = painted-cell (c .width) (c .height) (c .cells) (c .blockers) x y t
 
-  shut : PaddingShut M
+  pub shut : PaddingShut M
   unfolding paddedOf
   shut = OnMap.padding-shut (c .reach) (c .width) (c .height) (unblocked c) on-map (sourceBox c) (c .targets)
 
-  -- the window's size and reach
-  width-is : M .width ≡ W .right + 1 - W .left
+  -- its size and reach
+  pub width-is : M .width ≡ W .right + 1 - W .left
   unfolding paddedOf windowOf padded
   width-is = refl
 
-  height-is : M .height ≡ W .bottom + 1 - W .top
+  pub height-is : M .height ≡ W .bottom + 1 - W .top
   unfolding paddedOf windowOf padded
   height-is = refl
 
-  reach-is : M .reach ≡ c .reach
+  pub reach-is : M .reach ≡ c .reach
   unfolding paddedOf padded
   reach-is = refl
 
-  -- lane l's sources, seen from the window
-  abbrev SourceIn : ℕ → ℕ → ℕ → Type 0
+  -- lane l's sources, seen from the window, and its start values
+  abbrev pub SourceIn : ℕ → ℕ → ℕ → Type 0
   SourceIn l x y = T (startsLane c l (W .left + x - 1) (W .top + y - 1))
 
-  lane-sound : (l : ℕ) → Sound M (SourceIn l) (laneStart c l)
+  pub lane-sound : (l : ℕ) → Sound M (SourceIn l) (laneStart c l)
   unfolding laneStart
   lane-sound l = start-sound M shut (λ x y. startsLane c l (W .left + x - 1) (W .top + y - 1))
 
-  -- over inside cells, on the map
-  restricted : (l x y : ℕ) → l < c .lanes → In W x y →
-      Capped (c .reach) (WalkCosts (λ x y. T (unblocked c x y)) (Both (λ x y. T (unblocked c x y)) (Inside (c .reach) (sourceBox c) (c .targets))) (λ x y. T (startsLane c l x y)) x y)
-      (counted l (x + 1 - W .left) (y + 1 - W .top))
-  unfolding CountIs counted paddedOf windowOf padded
-  restricted l x y h i =
-      OnMap.window-field (c .reach) (c .width) (c .height) (unblocked c) on-map (sourceBox c) (c .targets) (λ x y. T (startsLane c l x y)) x y i
-      (count-field M shut SourceIn (laneStart c) lane-sound (c .lanes) k n l h (x + 1 - W .left) (y + 1 - W .top))
+  -- "Lanes beyond the resource count are unreachable everywhere.": no start, always unreachable
+  lane-resource : (l x y : ℕ) → T (startsLane c l x y) → l < resourceCount c
+  unfolding startsLane
+  lane-resource l x y t = ltb→lt l (resourceCount c) (and-left (ltb l (resourceCount c)) (ring (c .width) (c .height) (rectangle (c .resources) l) x y) t)
 
-  made-inner : (l x y : ℕ) → l < c .lanes → T (inWindow M x y) → LaneIs c l x y (counted l x y)
-  unfolding inWindow Value
-  made-inner l x y h t =
-      let i = in-box (record { left = 1; top = 1; right = M .width; bottom = M .height }) x y t in
-      let a = width-is in
-      let b = height-is in
-      let e : W .left + x - 1 + 1 - W .left ≡ x = omega arith in
-      let f : W .top + y - 1 + 1 - W .top ≡ y = omega arith in
-      inner t (to-field (rw (e, f) at (restricted l (W .left + x - 1) (W .top + y - 1) h (omega arith, omega arith, omega arith, omega arith))))
+  pub unused-lane : (l : ℕ) → ¬ (l < resourceCount c) → (k x y : ℕ) → valueAt M (sweeps M (laneStart c l) k) x y ≡ unreachable (M .reach)
+  unused-lane l h k x y =
+      let s = sweeps-sound M shut (SourceIn l) (laneStart c l) (lane-sound l) k in
+      by-cases (decLe (valueAt M (sweeps M (laneStart c l) k) x y) (cap (M .reach)))
+      (λ i. absurd (h (lane-resource l _ _ (s .real x y i .source))))
+      (λ i. omega (arith, s .top x y))
 
-  written-in-window : (x y : ℕ) → Allowed M x y → T (inWindow M x y)
-  unfolding inWindow
-  written-in-window x y o = box-in (record { left = 1; top = 1; right = M .width; bottom = M .height }) x y (written-in M shut x y o)
-
-  made-padding : (l x y : ℕ) → ¬ (T (inWindow M x y)) → LaneIs c l x y (counted l x y)
-  unfolding counted
-  made-padding l x y m =
-      padding m
-      (sound-shut M shut (SourceIn l) (sweeps-sound M shut (SourceIn l) (laneStart c l) (lane-sound l) k) x y (λ o. m (written-in-window x y o)) ∙ ap unreachable reach-is)
-
-  -- each cell and lane is as promised
-  pub lanes-made : (l x y : ℕ) → l < c .lanes → LaneIs c l x y (counted l x y)
-  lanes-made l x y h = by-cases (decT (inWindow M x y)) (made-inner l x y h) (made-padding l x y)
-
-  -- the count is at most 2 x reach + 1
-  pub counted-most : 1 ≤ c .reach → k ≤ 2 * c .reach + 1
-  unfolding CountIs
-  counted-most h = let e = reach-is in omega (arith, count-most M (omega arith) shut SourceIn (laneStart c) lane-sound (c .lanes) k n)
-
-  sources-in : (l a b : ℕ) → T (startsLane c l a b) → In (sourceBox c) a b
+  pub sources-in : (l a b : ℕ) → T (startsLane c l a b) → In (sourceBox c) a b
   unfolding startsLane sourceBox
   sources-in l a b t =
       let r = ring (c .width) (c .height) (rectangle (c .resources) l) a b in
-      let o = ltb→lt l (resourceCount c) (and-left (ltb l (resourceCount c)) r t) in
+      let o = lane-resource l a b t in
       ring-sources (c .width) (c .height) (c .resources) (resourceCount c - 1) l (omega arith) a b (and-right (ltb l (resourceCount c)) r t)
 
-  -- ---- demand 3: at a target cell of the window the value is the least cost of a walk on the whole painted map, from a walkable cell of the resource's ring
-  pub target-exact : (l x y : ℕ) → l < c .lanes → In (c .targets) x y → In W x y →
-      IsField (c .reach) (WalkCosts (λ x y. T (unblocked c x y)) (λ x y. T (unblocked c x y)) (λ x y. T (startsLane c l x y)) x y)
-      (counted l (x + 1 - W .left) (y + 1 - W .top))
-  target-exact l x y h i j = to-field (whole-map (c .reach) (sourceBox c) (c .targets) (sources-in l) i (restricted l x y h j))
-
-  -- and where the target cell is outside the window, no walk is within the cap
+  -- ---- demand 3, where a target cell is outside the window: no walk on the whole painted map is within the cap
   pub target-outside : (l x y : ℕ) → In (c .targets) x y → ¬ (In W x y) →
       IsField (c .reach) (WalkCosts (λ x y. T (unblocked c x y)) (λ x y. T (unblocked c x y)) (λ x y. T (startsLane c l x y)) x y) (unreachable (c .reach))
   unfolding windowOf
   target-outside l x y i j = outside (c .reach) (c .width) (c .height) (sourceBox c) (c .targets) on-map (sources-in l) x y i j
+
+-- ---- the counted sweeps meet the promise: what is left to the code is that its lanes are the sweeps' values and its count the count
+module _ (c : Call) (k : ℕ) (n : CountIs c k) where
+  -- lane l after the counted sweeps, at the window's column x and row y
+  unfoldable pub counted : ℕ → ℕ → ℕ → ℕ
+  counted l x y = valueAt (paddedOf c) (sweeps (paddedOf c) (laneStart c l) k) x y
+
+  -- over inside cells, on the map
+  pub restricted : (l x y : ℕ) → l < c .lanes → In (windowOf c) x y →
+      Capped (c .reach) (WalkCosts (λ x y. T (unblocked c x y)) (Both (λ x y. T (unblocked c x y)) (Inside (c .reach) (sourceBox c) (c .targets))) (λ x y. T (startsLane c l x y)) x y)
+      (counted l (x + 1 - windowOf c .left) (y + 1 - windowOf c .top))
+  unfolding CountIs counted paddedOf windowOf padded
+  restricted l x y h i =
+      OnMap.window-field (c .reach) (c .width) (c .height) (unblocked c) (on-map c) (sourceBox c) (c .targets) (λ x y. T (startsLane c l x y)) x y i
+      (count-field (paddedOf c) (shut c) (SourceIn c) (laneStart c) (lane-sound c) (c .lanes) k n l h (x + 1 - windowOf c .left) (y + 1 - windowOf c .top))
+
+  made-inner : (l x y : ℕ) → l < c .lanes → T (inWindow (paddedOf c) x y) → LaneIs c l x y (counted l x y)
+  unfolding inWindow Value
+  made-inner l x y h t =
+      let i = in-box (record { left = 1; top = 1; right = paddedOf c .width; bottom = paddedOf c .height }) x y t in
+      let a = width-is c in
+      let b = height-is c in
+      let e : windowOf c .left + x - 1 + 1 - windowOf c .left ≡ x = omega arith in
+      let f : windowOf c .top + y - 1 + 1 - windowOf c .top ≡ y = omega arith in
+      inner t (to-field (rw (e, f) at (restricted l (windowOf c .left + x - 1) (windowOf c .top + y - 1) h (omega arith, omega arith, omega arith, omega arith))))
+
+  written-in-window : (x y : ℕ) → Allowed (paddedOf c) x y → T (inWindow (paddedOf c) x y)
+  unfolding inWindow
+  written-in-window x y o = box-in (record { left = 1; top = 1; right = paddedOf c .width; bottom = paddedOf c .height }) x y (written-in (paddedOf c) (shut c) x y o)
+
+  made-padding : (l x y : ℕ) → ¬ (T (inWindow (paddedOf c) x y)) → LaneIs c l x y (counted l x y)
+  unfolding counted
+  made-padding l x y m =
+      padding m
+      (sound-shut (paddedOf c) (shut c) (SourceIn c l) (sweeps-sound (paddedOf c) (shut c) (SourceIn c l) (laneStart c l) (lane-sound c l) k) x y (λ o. m (written-in-window x y o)) ∙ ap unreachable (reach-is c))
+
+  -- each cell and lane is as promised
+  pub lanes-made : (l x y : ℕ) → l < c .lanes → LaneIs c l x y (counted l x y)
+  lanes-made l x y h = by-cases (decT (inWindow (paddedOf c) x y)) (made-inner l x y h) (made-padding l x y)
+
+  -- the count is at most 2 x reach + 1
+  pub counted-most : 1 ≤ c .reach → k ≤ 2 * c .reach + 1
+  unfolding CountIs
+  counted-most h = let e = reach-is c in omega (arith, count-most (paddedOf c) (omega arith) (shut c) (SourceIn c) (laneStart c) (lane-sound c) (c .lanes) k n)
+
+  -- ---- demand 3: at a target cell of the window the value is the least cost of a walk on the whole painted map, from a walkable cell of the resource's ring
+  pub target-exact : (l x y : ℕ) → l < c .lanes → In (c .targets) x y → In (windowOf c) x y →
+      IsField (c .reach) (WalkCosts (λ x y. T (unblocked c x y)) (λ x y. T (unblocked c x y)) (λ x y. T (startsLane c l x y)) x y)
+      (counted l (x + 1 - windowOf c .left) (y + 1 - windowOf c .top))
+  target-exact l x y h i j = to-field (whole-map (c .reach) (sourceBox c) (c .targets) (sources-in c l) i (restricted l x y h j))

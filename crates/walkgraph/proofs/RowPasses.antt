@@ -90,15 +90,15 @@ module _ (width reach : ℕ) (ok westOpen eastOpen : ℕ → Bool) (feed old : �
   out-ok x t = rw (cond-true (ok (suc x)) _ _ t) (below-five _ _ _ _ _)
 
   -- ---- what both passes leave
-  N-F : (x : ℕ) → x ≤ width + 1 → afterBoth x ≤ afterOut x
-  N-F x h = go (decLe x (width))
+  both-below : (x : ℕ) → x ≤ width + 1 → afterBoth x ≤ afterOut x
+  both-below x h = go (decLe x (width))
     where
       go : Dec (x ≤ width) → afterBoth x ≤ afterOut x
       go (yes k) = rw (both-step x k) (cond-ind (λ v. v ≤ afterOut x) (ok x) (λ t. omega arith) (λ t. omega arith))
       go (no k) = let e : x ≡ width + 1 = omega arith in rw e (omega (arith, both-last))
 
   pub row-fall : (x : ℕ) → x ≤ width + 1 → afterBoth x ≤ old x
-  row-fall x h = omega (arith, N-F x h, out-fall x)
+  row-fall x h = omega (arith, both-below x h, out-fall x)
 
   -- from the right
   pub row-right : (x : ℕ) → x ≤ width → T (ok x) → afterBoth x ≤ afterBoth (suc x) + 500
@@ -108,19 +108,19 @@ module _ (width reach : ℕ) (ok westOpen eastOpen : ℕ → Bool) (feed old : �
   pub row-left : (x : ℕ) → x ≤ width → T (ok (suc x)) → afterBoth (suc x) ≤ afterBoth x + 500
   row-left x h t =
       let a = out-ok x t .e≥ in
-      let b = N-F (suc x) (omega arith) in
+      let b = both-below (suc x) (omega arith) in
       rw (both-step x h) (cond-ind (λ v. afterBoth (suc x) ≤ v + 500) (ok x) (λ u. omega arith) (λ u. omega arith))
 
   -- from the row before
   pub row-straight : (x : ℕ) → x ≤ width → T (ok (suc x)) → afterBoth (suc x) ≤ feed (suc x) + 500
-  row-straight x h t = omega (arith, N-F (suc x) (omega arith), out-ok x t .b≥)
+  row-straight x h t = omega (arith, both-below (suc x) (omega arith), out-ok x t .b≥)
 
   pub row-west : (x : ℕ) → x ≤ width → T (ok (suc x)) → T (westOpen (suc x)) → afterBoth (suc x) ≤ feed x + 707
-  row-west x h t k = omega (arith, N-F (suc x) (omega arith), out-ok x t .c≥, diagonal-true (unreachable reach) (westOpen (suc x)) (feed x) k)
+  row-west x h t k = omega (arith, both-below (suc x) (omega arith), out-ok x t .c≥, diagonal-true (unreachable reach) (westOpen (suc x)) (feed x) k)
 
   pub row-east : (x : ℕ) → x ≤ width → T (ok (suc x)) → T (eastOpen (suc x)) → afterBoth (suc x) ≤ feed (suc (suc x)) + 707
   row-east x h t k =
-      omega (arith, N-F (suc x) (omega arith), out-ok x t .d≥, diagonal-true (unreachable reach) (eastOpen (suc x)) (feed (suc (suc x))) k)
+      omega (arith, both-below (suc x) (omega arith), out-ok x t .d≥, diagonal-true (unreachable reach) (eastOpen (suc x)) (feed (suc (suc x))) k)
 
   pub row-upright : (u : ℕ) → 1 ≤ u → u ≤ width → T (ok u) → afterBoth u ≤ feed u + 500
   row-upright zero h k t = absurd (omega arith)
