@@ -86,14 +86,13 @@ pub record Fresh (m : PaddedWindow) (n : ℕ) (cur : ℕ → ℕ → List ℕ) (
   pub small : (y : ℕ) → ver y < never
   pub past : (d : Direction) (z y : ℕ) → Feeds d z y → pul d y ≢ never → pul d y ≤ ver z
   pub quiet : (d : Direction) (z y : ℕ) → Feeds d z y → pul d y ≡ ver z → (l : ℕ) → l < n → RowQuiet m y z (cur l z) (cur l y)
-  pub top : (l y x : ℕ) → readRow m (cur l y) x ≤ unreachable (m .reach)
+  pub top : (l y x : ℕ) → l < n → readRow m (cur l y) x ≤ unreachable (m .reach)
 
 -- a row is relaxed: what changes
 pub record Relax (m : PaddedWindow) (n : ℕ) (cur cur′ : ℕ → ℕ → List ℕ) (ver ver′ : ℕ → ℕ) (pul pul′ : Direction → ℕ → ℕ) (d : Direction) (z y : ℕ) : Type 0 where
   pub feeds : Feeds d z y
   pub row : (l : ℕ) → l < n → cur′ l y ≡ relaxed m y z (cur l z) (cur l y)
-  pub rest : (l r : ℕ) → r ≢ y → cur′ l r ≡ cur l r
-  pub others : (l : ℕ) → n ≤ l → cur′ l y ≡ cur l y
+  pub rest : (l r : ℕ) → l < n → r ≢ y → cur′ l r ≡ cur l r
   pub version : (ver′ y ≡ suc (ver y)) ⊎ ((ver′ y ≡ ver y) × ((l x : ℕ) → l < n → readRow m (cur′ l y) x ≡ readRow m (cur l y) x))
   pub versions : (r : ℕ) → r ≢ y → ver′ r ≡ ver r
   pub pulled : pul′ d y ≡ ver z
@@ -135,32 +134,30 @@ module _ {m : PaddedWindow} (p : PaddingShut m) {n : ℕ} {cur cur′ : ℕ → 
       by-cases (both d e w y)
       (λ a.
       let o : v ≡ z = feeds-one d v z y (rw (a .0, a .1) at g) (r .feeds) in
-      rw (o, a .1, r .rest l z (feeds-ne d z y (r .feeds)), r .row l k) (relaxed-quiet m p y z (cur l z) (cur l y) (f .top l y)))
+      rw (o, a .1, r .rest l z k (feeds-ne d z y (r .feeds)), r .row l k) (relaxed-quiet m p y z (cur l z) (cur l y) (λ x. f .top l y x k)))
       (λ a.
       let q : pul e w ≡ ver′ v = sym (r .pulls e w a) ∙ h in
       by-cases (ℕ-discrete w y)
       (λ b.
       let c : v ≢ y = λ j. feeds-ne e v w g (j ∙ sym b) in
       let o : RowQuiet m w v (cur l v) (cur l w) = f .quiet e v w g (q ∙ r .versions v c) l k in
-      rw (r .rest l v c, b, r .row l k) (other-quiet m p y z (cur l z) (cur l y) (f .top l y) (rw b at o)))
+      rw (r .rest l v k c, b, r .row l k) (other-quiet m p y z (cur l z) (cur l y) (λ x. f .top l y x k) (rw b at o)))
       (λ b.
       by-cases (ℕ-discrete v y)
       (λ c.
       ⊎-elim
       (λ t. absurd (omega (arith, q, ap ver′ c, ap ver c, f .past e v w g (omega (arith, ap ver′ c)))))
       (λ t.
-      rw (r .rest l w b)
+      rw (r .rest l w k b)
       (quiet-feed (λ x. rw c (t .1 l x k)) (f .quiet e v w g (omega (arith, ap ver′ c, ap ver c)) l k)))
       (r .version))
-      (λ c. rw (r .rest l w b, r .rest l v c) (f .quiet e v w g (q ∙ r .versions v c) l k))))
+      (λ c. rw (r .rest l w k b, r .rest l v k c) (f .quiet e v w g (q ∙ r .versions v c) l k))))
 
-  new-top : (l v x : ℕ) → readRow m (cur′ l v) x ≤ unreachable (m .reach)
-  new-top l v x =
+  new-top : (l v x : ℕ) → l < n → readRow m (cur′ l v) x ≤ unreachable (m .reach)
+  new-top l v x k =
       by-cases (ℕ-discrete v y)
-      (λ e. by-cases (decLe (suc l) n)
-      (λ k. rw (e, r .row l k) (relaxed-top m p y z (cur l z) (cur l y) (f .top l y) x))
-      (λ k. rw (e, r .others l (omega arith)) (f .top l y x)))
-      (λ e. rw (r .rest l v e) (f .top l v x))
+      (λ e. rw (e, r .row l k) (relaxed-top m p y z (cur l z) (cur l y) (λ x. f .top l y x k) x))
+      (λ e. rw (r .rest l v k e) (f .top l v x k))
 
   new-small : (v : ℕ) → ver′ v < never
   new-small v = by-cases (ℕ-discrete v y) (λ e. rw e small) (λ e. omega (arith, r .versions v e, f .small v))
@@ -175,9 +172,18 @@ skip-row {m} {n} {cur} f d z y e h l k w =
     let a : length (relaxed m y z (cur l z) (cur l y)) ≡ m .width + 2 = R.relaxed-length m y z (cur l z) (cur l y) in
     ext-getD (unreachable (m .reach)) (relaxed m y z (cur l z) (cur l y)) (cur l y) (a ∙ sym w) (λ i j. skip-same f d z y e h l k i (omega arith))
 
--- before the first sweep nothing has been pulled
-pub fresh-start : {m : PaddedWindow} {n : ℕ} {cur : ℕ → ℕ → List ℕ} (never : ℕ) → 0 < never → ((l y x : ℕ) → readRow m (cur l y) x ≤ unreachable (m .reach)) → Fresh m n cur (λ y. 0) (λ d y. never) never
-fresh-start never h t = record { small = λ y. h; past = λ d z y f n. absurd (n refl); quiet = λ d z y f e l k. absurd (omega arith); top = t }
+-- before the first sweep all versions are 0; a row has pulled nothing, or counts as having pulled version 0 where that would change nothing
+pub fresh-start : {m : PaddedWindow} {n : ℕ} {cur : ℕ → ℕ → List ℕ} {pul : Direction → ℕ → ℕ} (never : ℕ) → 0 < never →
+    ((l y x : ℕ) → l < n → readRow m (cur l y) x ≤ unreachable (m .reach)) →
+    ((d : Direction) (y : ℕ) → (pul d y ≡ never) ⊎ (pul d y ≡ 0)) →
+    ((d : Direction) (z y : ℕ) → Feeds d z y → pul d y ≡ 0 → (l : ℕ) → l < n → RowQuiet m y z (cur l z) (cur l y)) → Fresh m n cur (λ y. 0) pul never
+fresh-start never h t e q =
+    record {
+      small = λ y. h;
+      past = λ d z y f n. ⊎-elim (λ g. absurd (n g)) (λ g. omega arith) (e d y);
+      quiet = λ d z y f g l k. q d z y f g l k;
+      top = t;
+    }
 
 -- a row with no cell to write stays as it is
 pub empty-quiet : {m : PaddedWindow} {y z : ℕ} {feed old : List ℕ} → ((x : ℕ) → ¬ (T (written m x y))) → ((x : ℕ) → readRow m old x ≤ unreachable (m .reach)) → RowQuiet m y z feed old
