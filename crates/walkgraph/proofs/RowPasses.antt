@@ -90,7 +90,7 @@ module _ (width reach : ℕ) (ok westOpen eastOpen : ℕ → Bool) (feed old : �
   out-ok x t = rw (cond-true (ok (suc x)) _ _ t) (below-five _ _ _ _ _)
 
   -- ---- what both passes leave
-  both-below : (x : ℕ) → x ≤ width + 1 → afterBoth x ≤ afterOut x
+  pub both-below : (x : ℕ) → x ≤ width + 1 → afterBoth x ≤ afterOut x
   both-below x h = go (decLe x (width))
     where
       go : Dec (x ≤ width) → afterBoth x ≤ afterOut x
