@@ -1,13 +1,14 @@
 -- Lists by their entries, and first and last numbers that pass a test.
 use mathlib.Core.Path.{_≡_, refl, ap}
 use mathlib.Core.Bool.{Bool, not}
-use Prim.Native.Nat.{ℕ, zero, suc, _+_, _≤_, _<_}
+use Prim.Native.Nat.{ℕ, zero, suc, _+_, _-_, _≤_, _<_}
 use native.Mathlib.Nat.{le-of-suc-le-suc, not-suc-le-zero}
 use native.Mathlib.Decide.{decLe, ℕ-discrete}
 use native.Mathlib.Omega.{arith}
 use lib.ListN.{getD, length}
 use lib.Dec.{T, T-not}
-use Rattle.walkgraph.specs.Lists.{tabulate, grown, grow, firstFrom, pastLast}
+use borrow.Author.Tests.{lt-ltb, le-ltb}
+use Rattle.walkgraph.specs.Lists.{tabulate, grown, grow, firstFrom, pastLast, placed}
 use Rattle.walkgraph.proofs.Tests.{by-cases, cond-ind}
 
 pub getD-tabulate {ℓ} : {A : Type ℓ} (n : ℕ) (f : ℕ → A) (d : A) (i : ℕ) → i < n → getD (tabulate n f) i d ≡ f i
@@ -75,3 +76,24 @@ past-last test none (suc n) =
     longer : {r : ℕ} → T (not (test (suc n))) → IsPast test none n r → IsPast test none (suc n) r
     longer t (nobody e f) = nobody e (λ x h k. by-cases (decLe x n) (f x h) (fails t x k))
     longer t (somebody p e a b s f) = somebody p e a (omega arith) s (λ x h k. by-cases (decLe x n) (f x h) (fails t x k))
+
+-- ---- entries that were replaced, and those that stay
+module _ (entries : ℕ → ℕ) (start n : ℕ) (new : ℕ → ℕ) where
+  pub placed-in : (k : ℕ) → k < n → placed entries start n new (start + k) ≡ new k
+  unfolding placed
+  placed-in k h = rw (le-ltb (start + k) start (omega arith), lt-ltb (start + k) (start + n) (omega arith)) (ap new (omega arith))
+
+  pub placed-below : (j : ℕ) → j < start → placed entries start n new j ≡ entries j
+  unfolding placed
+  placed-below j h = rw (lt-ltb j start h)
+
+  pub placed-above : (j : ℕ) → start + n ≤ j → placed entries start n new j ≡ entries j
+  unfolding placed
+  placed-above j h = rw (le-ltb j start (omega arith), le-ltb j (start + n) h)
+
+-- the three places of an index
+pub by-place : (P : ℕ → Type 0) (start n j : ℕ) → (j < start → P j) → ((k : ℕ) → k < n → P (start + k)) → (start + n ≤ j → P j) → P j
+by-place P start n j f g h =
+    by-cases (decLe start j)
+    (λ a. by-cases (decLe (start + n) j) h (λ b. let e : start + (j - start) ≡ j = omega arith in rw e at (g (j - start) (omega arith))))
+    (λ a. f (omega arith))

@@ -98,12 +98,6 @@ pub record Relax (m : PaddedWindow) (n : ℕ) (cur cur′ : ℕ → ℕ → List
   pub pulled : pul′ d y ≡ ver z
   pub pulls : (e : Direction) (r : ℕ) → ¬ ((e ≡ d) × (r ≡ y)) → pul′ e r ≡ pul e r
 
--- a skipped row would stay as it is
-pub skip-same : {m : PaddedWindow} {n : ℕ} {cur : ℕ → ℕ → List ℕ} {ver : ℕ → ℕ} {pul : Direction → ℕ → ℕ} {never : ℕ} → Fresh m n cur ver pul never →
-    (d : Direction) (z y : ℕ) → Feeds d z y → pul d y ≡ ver z → (l : ℕ) → l < n → (x : ℕ) → x ≤ m .width + 1 →
-    readRow m (relaxed m y z (cur l z) (cur l y)) x ≡ readRow m (cur l y) x
-skip-same {m} {n} {cur} f d z y e h l k x i = R.row-quiet m y z (cur l z) (cur l y) (f .quiet d z y e h l k) x i
-
 both : (d e : Direction) (w y : ℕ) → Dec ((e ≡ d) × (w ≡ y))
 both d e w y =
     by-cases (same-dir e d)
@@ -166,11 +160,25 @@ module _ {m : PaddedWindow} (p : PaddingShut m) {n : ℕ} {cur cur′ : ℕ → 
   relax-fresh = record { small = new-small; past = new-past; quiet = new-quiet; top = new-top }
 
 -- the same as lists, where rows have the window's width and padding
+pub quiet-row : {m : PaddedWindow} {y z : ℕ} {feed old : List ℕ} → RowQuiet m y z feed old → length old ≡ m .width + 2 → relaxed m y z feed old ≡ old
+quiet-row {m} {y} {z} {feed} {old} q w =
+    let a : length (relaxed m y z feed old) ≡ m .width + 2 = R.relaxed-length m y z feed old in
+    ext-getD (unreachable (m .reach)) (relaxed m y z feed old) old (a ∙ sym w) (λ i j. R.row-quiet m y z feed old q i (omega arith))
+
 pub skip-row : {m : PaddedWindow} {n : ℕ} {cur : ℕ → ℕ → List ℕ} {ver : ℕ → ℕ} {pul : Direction → ℕ → ℕ} {never : ℕ} → Fresh m n cur ver pul never →
     (d : Direction) (z y : ℕ) → Feeds d z y → pul d y ≡ ver z → (l : ℕ) → l < n → length (cur l y) ≡ m .width + 2 → relaxed m y z (cur l z) (cur l y) ≡ cur l y
-skip-row {m} {n} {cur} f d z y e h l k w =
-    let a : length (relaxed m y z (cur l z) (cur l y)) ≡ m .width + 2 = R.relaxed-length m y z (cur l z) (cur l y) in
-    ext-getD (unreachable (m .reach)) (relaxed m y z (cur l z) (cur l y)) (cur l y) (a ∙ sym w) (λ i j. skip-same f d z y e h l k i (omega arith))
+skip-row f d z y e h l k w = quiet-row (f .quiet d z y e h l k) w
+
+-- only the rows of the lanes below n count
+pub fresh-same : {m : PaddedWindow} {n : ℕ} {cur cur′ : ℕ → ℕ → List ℕ} {ver : ℕ → ℕ} {pul : Direction → ℕ → ℕ} {never : ℕ} → ((l v : ℕ) → l < n → cur′ l v ≡ cur l v) →
+    Fresh m n cur ver pul never → Fresh m n cur′ ver pul never
+fresh-same e f =
+    record {
+      small = f .small;
+      past = f .past;
+      quiet = λ d z y g h l k. rw (e l z k, e l y k) (f .quiet d z y g h l k);
+      top = λ l y x k. rw (e l y k) (f .top l y x k);
+    }
 
 -- before the first sweep all versions are 0; a row has pulled nothing, or counts as having pulled version 0 where that would change nothing
 pub fresh-start : {m : PaddedWindow} {n : ℕ} {cur : ℕ → ℕ → List ℕ} {pul : Direction → ℕ → ℕ} (never : ℕ) → 0 < never →

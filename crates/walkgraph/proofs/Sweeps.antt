@@ -12,7 +12,7 @@ use Rattle.walkgraph.specs.Lists.{tabulate, grow, grown}
 use Rattle.walkgraph.specs.Lanes.{cap, unreachable}
 use Rattle.walkgraph.specs.Walk.{distance, Step, straight, diagonal, Walk, here, on}
 use Rattle.walkgraph.specs.Field.{WalkCosts}
-use Rattle.walkgraph.specs.Sweep.{PaddedWindow, Direction, down, up, readRow, valueAt, written, place, corner, swept, sweep, turn, direction, sweeps, sweptStep}
+use Rattle.walkgraph.specs.Sweep.{PaddedWindow, Direction, down, up, readRow, valueAt, written, place, corner, relaxed, swept, sweep, turn, direction, sweeps, sweptStep}
 use Rattle.walkgraph.proofs.Tests.{and-left, and-right, and-pair, decT, by-cases}
 use Rattle.walkgraph.proofs.Lists.{getD-tabulate, length-tabulate, getD-grow}
 use Rattle.walkgraph.proofs.Walks.{steps-reach, extend, last-allowed}
@@ -45,12 +45,12 @@ unfolding corner
 corner-open m x y u z a b = and-pair (m .walkable u y) (m .walkable x z) a b
 
 -- ---- places
-place-place : (m : PaddedWindow) (d : Direction) (y : ℕ) → y ≤ m .height + 1 → place m d (place m d y) ≡ y
+pub place-place : (m : PaddedWindow) (d : Direction) (y : ℕ) → y ≤ m .height + 1 → place m d (place m d y) ≡ y
 unfolding place
 place-place m down y h = refl
 place-place m up y h = omega arith
 
-place-le : (m : PaddedWindow) (d : Direction) (y : ℕ) → y ≤ m .height + 1 → place m d y ≤ m .height + 1
+pub place-le : (m : PaddedWindow) (d : Direction) (y : ℕ) → y ≤ m .height + 1 → place m d y ≤ m .height + 1
 unfolding place
 place-le m down y h = h
 place-le m up y h = omega arith
@@ -98,8 +98,8 @@ view {Walkable} {x} {y} {u} {v} (diagonal e f p q) = go (decLe x u)
     go (no h) = east (omega arith) f refl p q
 
 -- to show something of each row, show it of the row at each place
-by-place : (m : PaddedWindow) (d : Direction) (P : ℕ → Type 0) → ((i : ℕ) → i ≤ m .height + 1 → P (place m d i)) → (y : ℕ) → y ≤ m .height + 1 → P y
-by-place m d P f y h = subst P (place-place m d y h) (f (place m d y) (place-le m d y h))
+by-row-place : (m : PaddedWindow) (d : Direction) (P : ℕ → Type 0) → ((i : ℕ) → i ≤ m .height + 1 → P (place m d i)) → (y : ℕ) → y ≤ m .height + 1 → P y
+by-row-place m d P f y h = subst P (place-place m d y h) (f (place m d y) (place-le m d y h))
 
 -- a table is read as unreachable past its end
 table-out : (m : PaddedWindow) (t : List (List ℕ)) (x y : ℕ) → length t ≤ y → valueAt m t x y ≡ unreachable (m .reach)
@@ -112,14 +112,23 @@ module _ (m : PaddedWindow) (p : PaddingShut m) (d : Direction) (t : List (List 
   abbrev old : ℕ → List ℕ
   old i = getD t (place m d i) []
 
-  -- the sweep's row at place i
-  at-place : (i x : ℕ) → i ≤ m .height + 1 → valueAt m (sweep m d t) x (place m d i) ≡ readRow m (S i) x
+  -- the rows of the sweep, by place and by row
+  pub swept-first : S zero ≡ old zero
+  unfolding swept grown
+  swept-first = refl
+
+  pub swept-next : (i : ℕ) → S (suc i) ≡ relaxed m (place m d (suc i)) (place m d i) (S i) (old (suc i))
+  unfolding swept grown sweptStep
+  swept-next i = refl
+
+  pub sweep-row : (y : ℕ) → y ≤ m .height + 1 → getD (sweep m d t) y [] ≡ S (place m d y)
   unfolding sweep swept
-  at-place i x h =
-      let rows = grow (m .height + 2) (getD t (place m d zero) []) (sweptStep m d t) in
-      ap (λ (r : List ℕ). readRow m r x) (getD-tabulate (m .height + 2) (λ y. getD rows (place m d y) []) [] (place m d i) (omega (arith, place-le m d i h)))
-      ∙ ap (λ (k : ℕ). readRow m (getD rows k []) x) (place-place m d i h)
-      ∙ ap (λ (r : List ℕ). readRow m r x) (getD-grow (m .height + 2) (getD t (place m d zero) []) (sweptStep m d t) [] i (omega arith))
+  sweep-row y h =
+      getD-tabulate (m .height + 2) (λ y. getD (grow (m .height + 2) (old zero) (sweptStep m d t)) (place m d y) []) [] y (omega arith)
+      ∙ getD-grow (m .height + 2) (old zero) (sweptStep m d t) [] (place m d y) (omega (arith, place-le m d y h))
+
+  at-place : (i x : ℕ) → i ≤ m .height + 1 → valueAt m (sweep m d t) x (place m d i) ≡ readRow m (S i) x
+  at-place i x h = ap (λ (r : List ℕ). readRow m r x) (sweep-row (place m d i) (place-le m d i h) ∙ ap S (place-place m d i h))
 
   -- ---- values fall
   S-fall : (i x : ℕ) → x ≤ m .width + 1 → readRow m (S i) x ≤ readRow m (old i) x
@@ -129,7 +138,7 @@ module _ (m : PaddedWindow) (p : PaddingShut m) (d : Direction) (t : List (List 
 
   pub sweep-fall-in : (x y : ℕ) → x ≤ m .width + 1 → y ≤ m .height + 1 → valueAt m (sweep m d t) x y ≤ valueAt m t x y
   sweep-fall-in x y h k =
-      by-place m d (λ y. valueAt m (sweep m d t) x y ≤ valueAt m t x y) (λ i l. omega (arith, at-place i x l, S-fall i x h)) y k
+      by-row-place m d (λ y. valueAt m (sweep m d t) x y ≤ valueAt m t x y) (λ i l. omega (arith, at-place i x l, S-fall i x h)) y k
 
   -- ---- the steps of the sweep lower no value
   module _ (j : ℕ) where
@@ -253,13 +262,13 @@ module _ (m : PaddedWindow) (p : PaddingShut m) (Source : ℕ → ℕ → Type 0
     pub sweep-top : (x y : ℕ) → valueAt m (sweep m d t) x y ≤ unreachable (m .reach)
     sweep-top x y =
         by-cases (decLe y (m .height + 1))
-        (by-place m d (λ y. valueAt m (sweep m d t) x y ≤ unreachable (m .reach)) (λ i l. omega (arith, at-place m p d t i x l, S-top i x)) y)
+        (by-row-place m d (λ y. valueAt m (sweep m d t) x y ≤ unreachable (m .reach)) (λ i l. omega (arith, at-place m p d t i x l, S-top i x)) y)
         (λ l. omega (arith, sweep-out x y (omega arith)))
 
     sweep-real : (x y : ℕ) → valueAt m (sweep m d t) x y ≤ cap (m .reach) → WalkCosts (Walkable m) (Allowed m) Source x y (valueAt m (sweep m d t) x y)
     sweep-real x y =
         by-cases (decLe y (m .height + 1))
-        (by-place m d (λ y. valueAt m (sweep m d t) x y ≤ cap (m .reach) → WalkCosts (Walkable m) (Allowed m) Source x y (valueAt m (sweep m d t) x y)) (λ i l. rw (at-place m p d t i x l) (S-real i l x)) y)
+        (by-row-place m d (λ y. valueAt m (sweep m d t) x y ≤ cap (m .reach) → WalkCosts (Walkable m) (Allowed m) Source x y (valueAt m (sweep m d t) x y)) (λ i l. rw (at-place m p d t i x l) (S-real i l x)) y)
         (λ l h. absurd (omega (arith, sweep-out x y (omega arith))))
 
     sweep-start : (x y : ℕ) → Source x y → Allowed m x y → valueAt m (sweep m d t) x y ≡ 0
@@ -317,7 +326,7 @@ module _ (m : PaddedWindow) (p : PaddingShut m) (Source : ℕ → ℕ → Type 0
         by-cases (decT (written m x y))
         (λ o.
         let b = written-in m p x y o in
-        by-place m d (λ y. valueAt m (sweep m d t) x y ≡ valueAt m t x y) (λ i l. at-place m p d t i x l ∙ S-quiet f i l x (omega arith)) y (omega arith))
+        by-row-place m d (λ y. valueAt m (sweep m d t) x y ≡ valueAt m t x y) (λ i l. at-place m p d t i x l ∙ S-quiet f i l x (omega arith)) y (omega arith))
         (λ n. sound-shut sweep-sound x y n ∙ sym (sound-shut g x y n))
 
 -- ---- many sweeps

@@ -1,7 +1,8 @@
 -- Lists by their entries, and searches among numbers. Document 01 speaks of tables and of first and last ones; these are the forms that compute.
 use mathlib.Core.Bool.{Bool, cond}
 use mathlib.Core.List.{List, [], _∷_}
-use Prim.Native.Nat.{ℕ, zero, suc}
+use Prim.Native.Nat.{ℕ, zero, suc, _+_, _-_}
+use lib.Dec.{ltb}
 
 -- f 0 .. f (n - 1)
 unfoldable pub tabulate {ℓ} : {A : Type ℓ} → ℕ → (ℕ → A) → List A
@@ -27,3 +28,7 @@ firstFrom test a (suc n) = cond (test a) a (firstFrom test (suc a) n)
 unfoldable pub pastLast : (ℕ → Bool) → ℕ → ℕ → ℕ
 pastLast test none zero = none
 pastLast test none (suc n) = cond (test (suc n)) (suc (suc n)) (pastLast test none n)
+
+-- a buffer by its entries, after n of them, from index `start` on, became those of `new`; the others stay
+unfoldable pub placed : (ℕ → ℕ) → ℕ → ℕ → (ℕ → ℕ) → ℕ → ℕ
+placed entries start n new i = cond (ltb i start) (entries i) (cond (ltb i (start + n)) (new (i - start)) (entries i))
