@@ -101,10 +101,6 @@ view {Walkable} {x} {y} {u} {v} (diagonal e f p q) = go (decLe x u)
 by-row-place : (m : PaddedWindow) (d : Direction) (P : ℕ → Type 0) → ((i : ℕ) → i ≤ m .height + 1 → P (place m d i)) → (y : ℕ) → y ≤ m .height + 1 → P y
 by-row-place m d P f y h = subst P (place-place m d y h) (f (place m d y) (place-le m d y h))
 
--- a table is read as unreachable past its end
-table-out : (m : PaddedWindow) (t : List (List ℕ)) (x y : ℕ) → length t ≤ y → valueAt m t x y ≡ unreachable (m .reach)
-table-out m t x y h = rw (List·getD-eq-default t [] h)
-
 module _ (m : PaddedWindow) (p : PaddingShut m) (d : Direction) (t : List (List ℕ)) where
   abbrev S : ℕ → List ℕ
   S = swept m d t
@@ -126,6 +122,12 @@ module _ (m : PaddedWindow) (p : PaddingShut m) (d : Direction) (t : List (List 
   sweep-row y h =
       getD-tabulate (m .height + 2) (λ y. getD (grow (m .height + 2) (old zero) (sweptStep m d t)) (place m d y) []) [] y (omega arith)
       ∙ getD-grow (m .height + 2) (old zero) (sweptStep m d t) [] (place m d y) (omega (arith, place-le m d y h))
+
+  pub sweep-past : (y : ℕ) → m .height + 1 < y → getD (sweep m d t) y [] ≡ []
+  unfolding sweep
+  sweep-past y h =
+      let rows = tabulate (m .height + 2) (λ y. getD (grow (m .height + 2) (old zero) (sweptStep m d t)) (place m d y) []) in
+      List·getD-eq-default rows [] (omega (arith, length-tabulate (m .height + 2) (λ y. getD (grow (m .height + 2) (old zero) (sweptStep m d t)) (place m d y) [])))
 
   at-place : (i x : ℕ) → i ≤ m .height + 1 → valueAt m (sweep m d t) x (place m d i) ≡ readRow m (S i) x
   at-place i x h = ap (λ (r : List ℕ). readRow m r x) (sweep-row (place m d i) (place-le m d i h) ∙ ap S (place-place m d i h))
@@ -254,10 +256,7 @@ module _ (m : PaddedWindow) (p : PaddingShut m) (Source : ℕ → ℕ → Type 0
         (λ l. omega (arith, R.relaxed-out m (place m d (suc i)) (place m d i) (swept m d t i) (getD t (place m d (suc i)) []) x (omega arith)))
 
     sweep-out : (x y : ℕ) → m .height + 1 < y → valueAt m (sweep m d t) x y ≡ unreachable (m .reach)
-    unfolding sweep
-    sweep-out x y h =
-        let rows = grow (m .height + 2) (getD t (place m d zero) []) (sweptStep m d t) in
-        table-out m (tabulate (m .height + 2) (λ y. getD rows (place m d y) [])) x y (omega (arith, length-tabulate (m .height + 2) (λ y. getD rows (place m d y) [])))
+    sweep-out x y h = ap (λ (r : List ℕ). readRow m r x) (sweep-past m p d t y h)
 
     pub sweep-top : (x y : ℕ) → valueAt m (sweep m d t) x y ≤ unreachable (m .reach)
     sweep-top x y =
