@@ -17,14 +17,14 @@ use Rattle.walkgraph.specs.Ring.{ring}
 use Rattle.walkgraph.specs.Window.{Inside}
 use Rattle.walkgraph.specs.Field.{Both, WalkCosts, IsField}
 use Rattle.walkgraph.specs.Sweep.{PaddedWindow, valueAt, sweeps, inWindow, padded}
-use Rattle.walkgraph.specs.Buffers.{Call, resourceCount, sourceBox, unblocked, windowOf, paddedOf, startsLane, Value, LaneIs, inner, padding, cellPlace, lanePlace, paddedCells, LanesAre, laneStart, CountIs}
+use Rattle.walkgraph.specs.Buffers.{Call, resourceCount, sourceBox, unblocked, windowOf, paddedOf, startsLane, Value, LaneIs, inner, padding, cellPlace, lanePlace, paddedCells, LanesAre, UsedPart, Lent, FieldMade, laneStart, CountIs}
 use Rattle.walkgraph.proofs.Tests.{by-cases, decT, and-left, and-right}
 use Rattle.walkgraph.proofs.Boxes.{in-box, box-in}
 use Rattle.walkgraph.proofs.Values.{Capped, to-field, field-one}
 use Rattle.walkgraph.proofs.WholeMap.{whole-map}
 use Rattle.walkgraph.proofs.Sweeps.{Allowed, PaddingShut, written-in, Sound, sweeps-sound, sound-shut}
 use Rattle.walkgraph.proofs.Maps.{painted-cell, ring-sources, outside}
-use Rattle.walkgraph.proofs.Count.{start-sound, count-field, count-most}
+use Rattle.walkgraph.proofs.Count.{start-sound, count-one, count-most, count-field}
 use Rattle.walkgraph.proofs.OnMap as OnMap
 
 -- ---- no two different results
@@ -62,6 +62,30 @@ lanes-one c h d₀ d e p q = ext-getD (pos 0) d e (p .long ∙ sym (q .long)) (�
         let f : a .0 ≡ b .0 = lane-one (a .1) (b .1) in
         subst (λ (z : ℕ). getD d z (pos 0) ≡ getD e z (pos 0)) (o .6) (a .2 ∙ ap (laneOf (bias (c .reach))) f ∙ sym (b .2)))
         (λ k. p .stay i (omega arith) ∙ sym (q .stay i (omega arith)))
+
+-- a used part, and so every buffer of a field call, is determined
+used-one : {used : ℕ} {f : ℕ → ℕ} {b d e : List ℕ} → UsedPart used f b d → UsedPart used f b e → d ≡ e
+used-one {used} {f} {b} {d} {e} p q = ext-getD 0 d e (p .long ∙ sym (q .long)) (λ j h. same j)
+  where
+    same : (j : ℕ) → getD d j 0 ≡ getD e j 0
+    same j =
+        by-cases (decLe (suc j) used)
+        (λ k. p .entries j k ∙ sym (q .entries j k))
+        (λ k. p .stay j (omega arith) ∙ sym (q .stay j (omega arith)))
+
+pub made-one : (c : Call) → 0 < c .lanes → (b d e : Lent) (j k : ℕ) → FieldMade c b d j → FieldMade c b e k → (d ≡ e) × (j ≡ k)
+unfolding CountIs
+made-one c h b d e j k p q =
+    let f₁ = lanes-one c h (b .lanes) (d .lanes) (e .lanes) (p .lanes) (q .lanes) in
+    let f₂ = used-one (p .walk) (q .walk) in
+    let f₃ = used-one (p .flags) (q .flags) in
+    let f₄ = used-one (p .rows) (q .rows) in
+    let f₅ = used-one (p .versions) (q .versions) in
+    let f₆ = used-one (p .pulledDown) (q .pulledDown) in
+    let f₇ = used-one (p .pulledUp) (q .pulledUp) in (
+      λ i. record { lanes = f₁ i; walk = f₂ i; flags = f₃ i; rows = f₄ i; versions = f₅ i; pulledDown = f₆ i; pulledUp = f₇ i },
+      count-one (paddedOf c) (laneStart c) (c .lanes) j k (p .count) (q .count),
+    )
 
 -- ---- the window of a call
 module _ (c : Call) where

@@ -2,10 +2,10 @@
 use mathlib.Core.Path.{_≡_}
 use mathlib.Core.Bool.{Bool, true, false, cond, _&&_}
 use mathlib.Core.List.{List}
-use Prim.Native.Nat.{ℕ, suc, _+_, _*_, _-_, _/_, _≤_, _<_}
+use Prim.Native.Nat.{ℕ, _+_, _*_, _-_, _/_, _%_, _≤_, _<_}
 use lib.ListN.{getD, length}
 use lib.IntN.{ℤ, pos}
-use lib.Dec.{T, ltb}
+use lib.Dec.{T, ltb, eqb}
 use Rattle.walkgraph.specs.Lists.{firstFrom, pastLast}
 use Rattle.walkgraph.specs.Lanes.{unreachable, bias, laneOf}
 use Rattle.walkgraph.specs.Map.{Box}
@@ -101,9 +101,47 @@ flagByte m x y =
     (walkByte m x y + 2 * bit (corner m x y (x - 1) (y - 1)) + 4 * bit (corner m x y (x + 1) (y - 1)) + 8 * bit (corner m x y (x - 1) (y + 1)) + 16 * bit (corner m x y (x + 1) (y + 1)))
     0
 
--- "row intervals = first inside column and one past the last, counted with padding, and both W+1 for an empty row"
+-- "row intervals = first inside column and one past the last, counted with padding, and both W+1 for an empty row": of row y, counted with padding
 unfoldable pub rowFirst : PaddedWindow → ℕ → ℕ
 rowFirst m y = firstFrom (λ x. m .inside x y) 1 (m .width)
 
 unfoldable pub rowPast : PaddedWindow → ℕ → ℕ
 rowPast m y = pastLast (λ x. m .inside x y) (m .width + 1) (m .width)
+
+-- ---- all buffers of a field call
+
+-- "Used parts end as [..]. Entries past the used part stay.": the first `used` entries are those of f
+pub record UsedPart (used : ℕ) (f : ℕ → ℕ) (before after : List ℕ) : Type 0 where
+  pub long : length after ≡ length before
+  pub entries : (j : ℕ) → j < used → getD after j 0 ≡ f j
+  pub stay : (j : ℕ) → used ≤ j → getD after j 0 ≡ getD before j 0
+
+-- the entries of a buffer of cells, row by row, from what stands at column x and row y
+unfoldable pub byCell : PaddedWindow → (ℕ → ℕ → ℕ) → ℕ → ℕ
+byCell m f j = f (j % (m .width + 2)) (j / (m .width + 2))
+
+-- "2H u16 of row intervals (two a row)"
+unfoldable pub rowEnds : PaddedWindow → ℕ → ℕ
+rowEnds m j = cond (eqb (j % 2) 0) (rowFirst m (j / 2 + 1)) (rowPast m (j / 2 + 1))
+
+-- what a field call is lent
+pub record Lent : Type 0 where
+  pub lanes : List ℤ
+  pub walk : List ℕ
+  pub flags : List ℕ
+  pub rows : List ℕ
+  pub versions : List ℕ
+  pub pulledDown : List ℕ
+  pub pulledUp : List ℕ
+
+-- what an accepted field call with a resource leaves, and its sweep count
+pub record FieldMade (c : Call) (before after : Lent) (sweeps : ℕ) : Type 0 where
+  pub lanes : LanesAre c (before .lanes) (after .lanes)
+  pub walk : UsedPart (paddedCells (paddedOf c)) (byCell (paddedOf c) (walkByte (paddedOf c))) (before .walk) (after .walk)
+  pub flags : UsedPart (paddedCells (paddedOf c)) (byCell (paddedOf c) (flagByte (paddedOf c))) (before .flags) (after .flags)
+  pub rows : UsedPart (2 * paddedOf c .height) (rowEnds (paddedOf c)) (before .rows) (after .rows)
+  -- "versions = 0"
+  pub versions : UsedPart (paddedOf c .height + 2) (λ j. 0) (before .versions) (after .versions)
+  pub pulledDown : UsedPart (paddedOf c .height + 2) (λ j. 0) (before .pulledDown) (after .pulledDown)
+  pub pulledUp : UsedPart (paddedOf c .height + 2) (λ j. 0) (before .pulledUp) (after .pulledUp)
+  pub count : CountIs c sweeps

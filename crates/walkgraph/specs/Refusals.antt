@@ -10,7 +10,7 @@ use Rattle.walkgraph.specs.Lists.{firstFrom}
 use Rattle.walkgraph.specs.Map.{Box}
 use Rattle.walkgraph.specs.Painting.{Rectangle, rectangle}
 use Rattle.walkgraph.specs.Ring.{pixel, accessCells}
-use Rattle.walkgraph.specs.Buffers.{Call, paddedOf, paddedCells}
+use Rattle.walkgraph.specs.Buffers.{Call, paddedOf, paddedCells, Lent}
 
 -- a call is accepted, or refused with a number and a place
 pub data Verdict : Type 0 where
@@ -66,16 +66,6 @@ pub record FieldInput : Type 0 where
   pub resources : List ℤ
   pub targets : Rectangle
 
--- and the lengths of the buffers that it is lent
-pub record FieldLengths : Type 0 where
-  pub lanes : ℕ
-  pub walk : ℕ
-  pub flags : ℕ
-  pub rows : ℕ
-  pub versions : ℕ
-  pub pulledDown : ℕ
-  pub pulledUp : ℕ
-
 -- the call of an input whose target box is in the map
 unfoldable pub callOf : ℕ → FieldInput → Call
 callOf reach i =
@@ -96,15 +86,15 @@ callOf reach i =
     }
 
 -- 7 SCRATCH: "P x lanes i16, P bytes of walk, P bytes of flags, 2H u16 of row intervals (two a row), and three version buffers of H+2 u32"
-unfoldable pub shortBuffers : Call → FieldLengths → Bool
+unfoldable pub shortBuffers : Call → Lent → Bool
 shortBuffers c lent =
     let cells = paddedCells (paddedOf c) in
     let rows = paddedOf c .height in
     not
-    (leb (cells * c .lanes) (lent .lanes) && leb cells (lent .walk) && leb cells (lent .flags) && leb (2 * rows) (lent .rows) && leb (rows + 2) (lent .versions) && leb (rows + 2) (lent .pulledDown) && leb (rows + 2) (lent .pulledUp))
+    (leb (cells * c .lanes) (length (lent .lanes)) && leb cells (length (lent .walk)) && leb cells (length (lent .flags)) && leb (2 * rows) (length (lent .rows)) && leb (rows + 2) (length (lent .versions)) && leb (rows + 2) (length (lent .pulledDown)) && leb (rows + 2) (length (lent .pulledUp)))
 
 -- "Field call order: 1 to 7"; "With no resources [..] no length is needed of any buffer"
-unfoldable pub fieldVerdict : ℕ → FieldInput → FieldLengths → Verdict
+unfoldable pub fieldVerdict : ℕ → FieldInput → Lent → Verdict
 fieldVerdict reach i lent =
     let n = length (i .resources) / 4 in
     let bad = firstBadResource (i .width) (i .height) (i .resources) in
