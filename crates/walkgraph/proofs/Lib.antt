@@ -29,3 +29,4 @@ pub mod Ranks
 pub mod Numbering
 pub mod NumberingMade
 pub mod AccessList
+pub mod Readings

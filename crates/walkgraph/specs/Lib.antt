@@ -10,4 +10,5 @@ pub mod Field
 pub mod Sweep
 pub mod Links
 pub mod Buffers
+pub mod Reading
 pub mod Refusals
