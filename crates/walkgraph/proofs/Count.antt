@@ -20,7 +20,7 @@ use Rattle.walkgraph.proofs.Sweeps.{Walkable, Allowed, PaddingShut, wri
 -- ---- the start is sound
 module _ (m : PaddedWindow) (p : PaddingShut m) (source : ℕ → ℕ → Bool) where
   -- a lane starts at its sources that are written, and nowhere else
-  starts-written : (x y : ℕ) → T (starts m source x y) → Allowed m x y × T (source x y)
+  pub starts-written : (x y : ℕ) → T (starts m source x y) → Allowed m x y × T (source x y)
   unfolding starts
   starts-written x y t = (and-left (written m x y) (source x y) t, and-right (written m x y) (source x y) t)
 
@@ -28,27 +28,27 @@ module _ (m : PaddedWindow) (p : PaddingShut m) (source : ℕ → ℕ → Bool) 
   unfolding starts
   written-starts x y o f = and-pair (written m x y) (source x y) o f
 
-  abbrev rowF : ℕ → ℕ → ℕ
-  rowF y x = cond (starts m source x y) 0 (unreachable (m .reach))
+  abbrev pub startValue : ℕ → ℕ → ℕ
+  startValue y x = cond (starts m source x y) 0 (unreachable (m .reach))
 
-  started-at : (x y : ℕ) → x < m .width + 2 → y < m .height + 2 → valueAt m (startTable m source) x y ≡ rowF y x
+  pub started-at : (x y : ℕ) → x < m .width + 2 → y < m .height + 2 → valueAt m (startTable m source) x y ≡ startValue y x
   unfolding startTable
   started-at x y h k =
-      ap (λ (r : List ℕ). readRow m r x) (getD-tabulate (m .height + 2) (λ y. tabulate (m .width + 2) (rowF y)) [] y k) ∙ getD-tabulate (m .width + 2) (rowF y) (unreachable (m .reach)) x h
+      ap (λ (r : List ℕ). readRow m r x) (getD-tabulate (m .height + 2) (λ y. tabulate (m .width + 2) (startValue y)) [] y k) ∙ getD-tabulate (m .width + 2) (startValue y) (unreachable (m .reach)) x h
 
   started-y : (x y : ℕ) → ¬ (y < m .height + 2) → valueAt m (startTable m source) x y ≡ unreachable (m .reach)
   unfolding startTable
   started-y x y k =
-      ap (λ (r : List ℕ). readRow m r x) (List·getD-eq-default (tabulate (m .height + 2) (λ y. tabulate (m .width + 2) (rowF y))) [] (omega (arith, length-tabulate (m .height + 2) (λ y. tabulate (m .width + 2) (rowF y)))))
+      ap (λ (r : List ℕ). readRow m r x) (List·getD-eq-default (tabulate (m .height + 2) (λ y. tabulate (m .width + 2) (startValue y))) [] (omega (arith, length-tabulate (m .height + 2) (λ y. tabulate (m .width + 2) (startValue y)))))
 
   started-x : (x y : ℕ) → ¬ (x < m .width + 2) → y < m .height + 2 → valueAt m (startTable m source) x y ≡ unreachable (m .reach)
   unfolding startTable
   started-x x y h k =
-      ap (λ (r : List ℕ). readRow m r x) (getD-tabulate (m .height + 2) (λ y. tabulate (m .width + 2) (rowF y)) [] y k)
-      ∙ List·getD-eq-default (tabulate (m .width + 2) (rowF y)) (unreachable (m .reach)) (omega (arith, length-tabulate (m .width + 2) (rowF y)))
+      ap (λ (r : List ℕ). readRow m r x) (getD-tabulate (m .height + 2) (λ y. tabulate (m .width + 2) (startValue y)) [] y k)
+      ∙ List·getD-eq-default (tabulate (m .width + 2) (startValue y)) (unreachable (m .reach)) (omega (arith, length-tabulate (m .width + 2) (startValue y)))
 
   -- a cell is at its start value, or past the table
-  started-ind : (P : ℕ → Type 0) (x y : ℕ) → P (rowF y x) → P (unreachable (m .reach)) → P (valueAt m (startTable m source) x y)
+  pub started-ind : (P : ℕ → Type 0) (x y : ℕ) → P (startValue y x) → P (unreachable (m .reach)) → P (valueAt m (startTable m source) x y)
   started-ind P x y f g =
       by-cases (decLe (suc y) (m .height + 2))
       (λ k. by-cases (decLe (suc x) (m .width + 2)) (λ h. rw (started-at x y h k) f) (λ h. rw (started-x x y h k) g))
