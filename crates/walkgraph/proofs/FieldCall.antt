@@ -20,7 +20,7 @@ use Rattle.walkgraph.specs.Sweep.{PaddedWindow, valueAt, sweeps, inWindo
 use Rattle.walkgraph.specs.Buffers.{Call, resourceCount, sourceBox, unblocked, windowOf, paddedOf, startsLane, Value, LaneIs, inner, padding, cellPlace, lanePlace, paddedCells, LanesAre, UsedPart, Lent, FieldMade, laneStart, CountIs}
 use Rattle.walkgraph.proofs.Tests.{by-cases, decT, and-left, and-right}
 use Rattle.walkgraph.proofs.Boxes.{in-box, box-in}
-use Rattle.walkgraph.proofs.Values.{Capped, to-field, field-one}
+use Rattle.walkgraph.proofs.Values.{Capped, to-capped, to-field, field-one}
 use Rattle.walkgraph.proofs.WholeMap.{whole-map}
 use Rattle.walkgraph.proofs.Sweeps.{Allowed, PaddingShut, written-in, Sound, sweeps-sound, sound-shut}
 use Rattle.walkgraph.proofs.Maps.{painted-cell, ring-sources, outside}
@@ -144,6 +144,12 @@ module _ (c : Call) where
       let o = lane-resource l a b t in
       ring-sources (c .width) (c .height) (c .resources) (resourceCount c - 1) l (omega arith) a b (and-right (ltb l (resourceCount c)) r t)
 
+  -- ---- demand 3: at a target cell the field over inside cells is that of the whole painted map
+  pub value-exact : (l x y : ℕ) → In (c .targets) x y → {v : ℕ} → Value c l x y v →
+      IsField (c .reach) (WalkCosts (λ x y. T (unblocked c x y)) (λ x y. T (unblocked c x y)) (λ x y. T (startsLane c l x y)) x y) v
+  unfolding Value
+  value-exact l x y i f = to-field (whole-map (c .reach) (sourceBox c) (c .targets) (sources-in l) i (to-capped f))
+
   -- ---- demand 3, where a target cell is outside the window: no walk on the whole painted map is within the cap
   pub target-outside : (l x y : ℕ) → In (c .targets) x y → ¬ (In W x y) →
       IsField (c .reach) (WalkCosts (λ x y. T (unblocked c x y)) (λ x y. T (unblocked c x y)) (λ x y. T (startsLane c l x y)) x y) (unreachable (c .reach))
@@ -198,4 +204,5 @@ module _ (c : Call) (k : ℕ) (n : CountIs c k) where
   pub target-exact : (l x y : ℕ) → l < c .lanes → In (c .targets) x y → In (windowOf c) x y →
       IsField (c .reach) (WalkCosts (λ x y. T (unblocked c x y)) (λ x y. T (unblocked c x y)) (λ x y. T (startsLane c l x y)) x y)
       (counted l (x + 1 - windowOf c .left) (y + 1 - windowOf c .top))
-  target-exact l x y h i j = to-field (whole-map (c .reach) (sourceBox c) (c .targets) (sources-in c l) i (restricted l x y h j))
+  unfolding Value
+  target-exact l x y h i j = value-exact c l x y i (to-field (restricted l x y h j))

@@ -30,3 +30,4 @@ pub mod Numbering
 pub mod NumberingMade
 pub mod AccessList
 pub mod Readings
+pub mod Promises

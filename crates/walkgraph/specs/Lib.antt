@@ -12,3 +12,4 @@ pub mod Links
 pub mod Buffers
 pub mod Reading
 pub mod Refusals
+pub mod Promise
