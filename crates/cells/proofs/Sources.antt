@@ -55,7 +55,7 @@ pub so-far-around : (w h : ℕ) (l : List ℤ) (k : ℕ) (b : Box) (ring : Ring)
 so-far-around w h l k b ring e o good = rw (around-good w h (rectangle l k) b ring o good, e, add-one k) (so-far-more w h l k (on-map w h (rectangle l k) good))
 
 -- ---- the ring boxes are in the map, and so is the box around them
-ring-in-map : (w h : ℕ) (r : Rectangle) → OnMap w h r → InMap w h (ringBox w h r)
+pub ring-in-map : (w h : ℕ) (r : Rectangle) → OnMap w h r → InMap w h (ringBox w h r)
 unfolding ringBox body
 ring-in-map w h r o =
     let a = o .across in
