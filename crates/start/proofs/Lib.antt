@@ -1,0 +1,4 @@
+pub mod Some
+pub mod Turns
+pub mod Rooms
+pub mod HitsAre

@@ -1,0 +1,2 @@
+-- What the start crate's contracts speak of.
+pub mod Hits
