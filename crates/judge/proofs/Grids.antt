@@ -1,0 +1,39 @@
+-- The greatest byte of a grid as a loop finds it, and the test of a grid as the code makes it.
+use mathlib.Core.Path.{_≡_, sym}
+use mathlib.Core.Bool.{not, _&&_, and-assoc, Bool·not-not}
+use mathlib.Core.List.{List, [], _∷_}
+use Prim.Native.Nat.{ℕ, _+_, _*_, _≤_, _<_, max}
+use native.Mathlib.Omega.{arith}
+use native.Mathlib.Decide.{decLe}
+use native.Mathlib.Numerals.{add-one}
+use lib.ListN.{length, getD, drop, drop-of-length-le}
+use lib.Seq.{drop-cons}
+use lib.Dec.{leb, eqb}
+use borrow.Author.Tests.{le-leb, lt-leb}
+use Rattle.walkgraph.specs.Refusals.{badGrid, all}
+use Rattle.walkgraph.proofs.Tests.{by-cases, leb-eq}
+use Rattle.judge.specs.Grids.{greatest, inLimits}
+
+-- ---- `high` is the greatest of the first k bytes: it and the others make the greatest of all
+module _ (cells : List ℕ) (high k : ℕ) where
+  pub one-more : k < length cells → max (max high (getD cells k 0)) (greatest (drop (k + 1) cells)) ≡ max high (greatest (drop k cells))
+  unfolding greatest
+  one-more i = rw (drop-cons cells k 0 i, add-one k) (omega arith)
+
+  pub all-passed : length cells ≤ k → max high (greatest (drop k cells)) ≡ high
+  unfolding greatest
+  all-passed i = rw (drop-of-length-le cells i) (omega arith)
+
+-- the greatest is small exactly where every byte is
+all-small : (n : ℕ) (cells : List ℕ) → all (λ byte. leb byte n) cells ≡ leb (greatest cells) n
+unfolding all greatest
+all-small n [] = sym (le-leb 0 n (omega arith))
+all-small n (b ∷ l) =
+    by-cases (decLe b n)
+    (λ h. rw (le-leb b n h, all-small n l) (leb-eq (greatest l) n (max b (greatest l)) n (λ i. omega arith) (λ i. omega arith)))
+    (λ h. rw (lt-leb b n (omega arith)) (sym (lt-leb (max b (greatest l)) n (omega arith))))
+
+-- the four tests of a grid, in the code's order
+pub good-grid : (w h : ℕ) (cells : List ℕ) → not (badGrid w h cells) ≡ (inLimits w && inLimits h && eqb (length cells) (w * h) && leb (greatest cells) 1)
+unfolding badGrid inLimits
+good-grid w h cells = rw (Bool·not-not, and-assoc (leb 1 w && leb w 1024) (leb 1 h) (leb h 1024), all-small 1 cells)
