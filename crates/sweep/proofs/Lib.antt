@@ -1,0 +1,14 @@
+pub mod Strips
+pub mod Lanewise
+pub mod Passes
+pub mod Relax
+pub mod Windows
+pub mod Runs
+pub mod LevelStep
+pub mod Gates
+pub mod Columns
+pub mod RowLevels
+pub mod RowResult
+pub mod Turn
+pub mod SweepLevels
+pub mod RunLevels

@@ -1,0 +1,50 @@
+-- `run::alternate`: down or up.
+use Rattle.sweep.proofs.Runs.{sweep-down, sweep-up}
+use borrow.Author.Needs.{needs}
+use Rattle.sweep.proofs.run.alternate.Statement.{statement}
+use Rattle.sweep.proofs.run.alternate.Tie as tie
+
+sweep-requires : tie.Need-sweep-requires
+sweep-requires c κs = search needs
+
+same-length : tie.Need-same-length
+same-length c = search needs
+
+same-length-2 : tie.Need-same-length-2
+same-length-2 c = search needs
+
+same-length-3 : tie.Need-same-length-3
+same-length-3 c = search needs
+
+returns : tie.Need-returns
+returns c = sweep-down (c .before .before .before .before .before .before .before .before .before .if1 .taken) (c .before .before .before .before .before .sweep .ensures)
+
+sweep-requires-2 : tie.Need-sweep-requires-2
+sweep-requires-2 c κs = search needs
+
+same-length-4 : tie.Need-same-length-4
+same-length-4 c = search needs
+
+same-length-5 : tie.Need-same-length-5
+same-length-5 c = search needs
+
+same-length-6 : tie.Need-same-length-6
+same-length-6 c = search needs
+
+returns-2 : tie.Need-returns-2
+returns-2 c = sweep-up (c .before .before .before .before .before .before .before .before .before .if1 .left) (c .before .before .before .before .before .sweep2 .ensures)
+
+pub alternate-spec : {M : Type 1} → statement M
+alternate-spec =
+    tie.close
+    (tie.spec
+    sweep-requires
+    same-length
+    same-length-2
+    same-length-3
+    returns
+    sweep-requires-2
+    same-length-4
+    same-length-5
+    same-length-6
+    returns-2)

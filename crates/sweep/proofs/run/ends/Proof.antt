@@ -1,0 +1,13 @@
+-- `run::ends`.
+use borrow.Author.Needs.{needs}
+use Rattle.sweep.proofs.run.ends.Statement.{statement}
+use Rattle.sweep.proofs.run.ends.Tie as tie
+
+returns : tie.Need-returns
+returns c = search needs
+
+returns-2 : tie.Need-returns-2
+returns-2 c = rw (c .if1 .left)
+
+pub ends-spec : {M : Type 1} → statement M
+ends-spec = tie.close (tie.spec returns returns-2)

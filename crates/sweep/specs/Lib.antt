@@ -1,0 +1,3 @@
+pub mod Row
+pub mod Visits
+pub mod Buffers
