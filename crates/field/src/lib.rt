@@ -1,0 +1,3 @@
+// The field call, and reading a cell.
+pub mod order;
+pub mod read;
