@@ -1,3 +1,6 @@
--- The field call's verdict from its parts, and the laws of reading a cell.
+-- The field call's verdict from its parts, the laws of reading a cell, and the field joined.
 pub mod Verdicts
 pub mod Parts
+pub mod LanesMade
+pub mod Started
+pub mod FieldJoin

@@ -1,3 +1,4 @@
--- The field call's refusals in two parts, and parts of the lent lanes.
+-- The field call's refusals in two parts, parts of the lent lanes, and sites.
 pub mod Verdicts
 pub mod Parts
+pub mod Sites

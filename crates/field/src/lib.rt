@@ -1,3 +1,4 @@
 // The field call, and reading a cell.
 pub mod order;
 pub mod read;
+pub mod site;
