@@ -1,4 +1,5 @@
--- The field call's refusals in two parts, parts of the lent lanes, and sites.
+-- The field call's refusals in two parts, parts of the lent lanes, sites, and version buffers.
 pub mod Verdicts
 pub mod Parts
 pub mod Sites
+pub mod Versions

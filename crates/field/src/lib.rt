@@ -2,3 +2,4 @@
 pub mod order;
 pub mod read;
 pub mod site;
+pub mod versions;
