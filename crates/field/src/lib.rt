@@ -1,4 +1,5 @@
 // The field call, and reading a cell.
+pub mod ground;
 pub mod order;
 pub mod read;
 pub mod site;

@@ -28,6 +28,7 @@ gate-level {table} g bit k b h =
     (λ e. let z : 0 * 8 + k ≡ k = omega arith in rw (e, z) (g .shut k h))
     (λ e. let f : bit ≡ 1 = omega arith in rw f (g .through k h))
 
+-- of each lane of a strip, one by one
 pub below-eight : (P : ℕ → Type 0) → P 0 → P 1 → P 2 → P 3 → P 4 → P 5 → P 6 → P 7 → (k : ℕ) → k < 8 → P k
 below-eight P a b c d e f g h zero l = a
 below-eight P a b c d e f g h (suc zero) l = b
@@ -47,6 +48,7 @@ pub record Marked (marks : List ℤ) (F G : ℕ → ℕ) : Type 0 where
   pub still : ((k : ℕ) → k < 8 → getD marks k (pos 0) ≡ negsuc 0) → F ≡ G
   pub moved : (k : ℕ) → k < 8 → getD marks k (pos 0) ≡ pos 0 → Differ F G
 
+-- at the start
 pub marked-start : {marks : List ℤ} (F : ℕ → ℕ) → ((k : ℕ) → k < 8 → getD marks k (pos 0) ≡ negsuc 0) → Marked marks F F
 marked-start F e =
     record {
