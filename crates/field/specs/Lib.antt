@@ -1,6 +1,7 @@
--- The field call's refusals in two parts, parts of the lent lanes, sites, version buffers, and what a ground asks.
+-- The field call's refusals in two parts, its plan, sites, what a ground asks, version buffers, and parts of the lent lanes.
 pub mod Verdicts
-pub mod Parts
 pub mod Sites
-pub mod Versions
+pub mod Plans
 pub mod Grounds
+pub mod Versions
+pub mod Parts
