@@ -2,7 +2,10 @@
 use mathlib.Core.Path.{_∙_, ap}
 use Prim.Native.Nat.{ℕ, _+_, _-_}
 use borrow.Author.Needs.{needs}
+use native.Mathlib.Omega.{arith}
+use denote.Ref.{now}
 use Rattle.walkgraph.specs.Lists.{placed}
+use Rattle.window.specs.Fills.{entries, zeros}
 use Rattle.field.specs.Versions.{never}
 use Rattle.field.proofs.versions.unpulled.Statement.{statement}
 use Rattle.field.proofs.versions.unpulled.Tie as tie
@@ -51,7 +54,7 @@ returns c =
     let a = c .before .before .before .before .before .before .before .before .before .before .before .before .before .before .before .before .before .before .before .args in
     record {
       version = c .before .before .before .before .before .before .before .before .before .before .before .before .before .before .set .ensures;
-      down = c .before .before .before .before .before .before .set3 .ensures ∙ ap (λ (before : ℕ → ℕ). placed before (a .quiet + 1) (a .height + 1 - a .quiet) never) (c .before .before .before .before .before .before .before .before .before .before .set2 .ensures);
+      down = c .before .before .before .before .before .before .set3 .ensures ∙ ap (λ (before : ℕ → ℕ). placed before (a .quiet + 1) (a .height + 1 - a .quiet) never) (c .before .before .before .before .before .before .before .before .before .before .set2 .ensures ∙ ap (λ (n : ℕ). placed (entries (now (a .pulled-down))) 0 n zeros) (omega arith));
       up = c .before .before .set4 .ensures;
     }
 
