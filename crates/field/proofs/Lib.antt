@@ -6,4 +6,5 @@ pub mod LanesMade
 pub mod Started
 pub mod FieldJoin
 pub mod RunStays
+pub mod UsedParts
 pub mod Parts
