@@ -101,7 +101,7 @@ started-level false of-window of-call e f = omega arith
 
 module _ (c : Call) (reach : c .reach ≡ 96) (before levels : ℕ → ℕ) (hit : ℕ → Bool)
     (hits : (l x y : ℕ) → l < c .lanes → x ≤ paddedOf c .width + 1 → y ≤ paddedOf c .height + 1 →
-      hit (slot (c .lanes) (paddedOf c .width + 2) l x y) ≡ starts (paddedOf c) (λ x y. startsLane c l (windowOf c .left + x - 1) (windowOf c .top + y - 1)) x y)
+    hit (slot (c .lanes) (paddedOf c .width + 2) l x y) ≡ starts (paddedOf c) (λ x y. startsLane c l (windowOf c .left + x - 1) (windowOf c .top + y - 1)) x y)
     (begun : levels ≡ startedLevels (placed before 0 ((paddedOf c .height + 2) * (paddedOf c .width + 2) * c .lanes) (λ (k : ℕ). 65535)) hit) where
   pub holds-begun : (l v : ℕ) → l < c .lanes → v ≤ paddedOf c .height + 1 → Holds (paddedOf c) (c .lanes) (baseOf (c .reach)) levels l v (getD (laneStart c l) v [])
   unfolding laneStart startTable startedLevels

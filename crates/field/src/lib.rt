@@ -1,5 +1,6 @@
 // The field call, and reading a cell.
 pub mod ground;
+pub mod make;
 pub mod order;
 pub mod plan;
 pub mod read;
