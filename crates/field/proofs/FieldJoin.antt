@@ -19,12 +19,13 @@ use Rattle.walkgraph.proofs.Lanes.{LaneRules}
 use Rattle.walkgraph.proofs.Intervals.{IsInterval, row-interval, row-inside, inside-row}
 use Rattle.walkgraph.proofs.FieldCall.{shut, reach-is, SourceIn, lane-sound}
 use Rattle.lane.specs.Levels.{levelAt}
-use Rattle.sweep.specs.Visits.{Ground, Run, Ended, Sweeps}
-use Rattle.sweep.proofs.Columns.{slot}
-use Rattle.sweep.proofs.RowLevels.{Interval, Holds}
-use Rattle.sweep.proofs.Turn.{GroundIs, pullOf, never}
-use Rattle.sweep.proofs.SweepLevels.{Kept, Sized}
-use Rattle.sweep.proofs.RunLevels as RunLevels
+use Rattle.row.specs.Visits.{Ground}
+use Rattle.sweep.specs.Sweeps.{Run, Ended, Sweeps}
+use Rattle.plainsweeps.proofs.Columns.{slot}
+use Rattle.plainsweeps.proofs.RowLevels.{Interval, Holds}
+use Rattle.plainsweeps.proofs.Turn.{GroundIs, pullOf, never}
+use Rattle.plainsweeps.proofs.SweepLevels.{Kept, Sized}
+use Rattle.plainsweeps.proofs.RunLevels as RunLevels
 use Rattle.field.proofs.LanesMade.{baseOf, base-high, sized-start, lanes-are}
 use Rattle.field.proofs.Started.{Unpulled, kept-start}
 

@@ -28,7 +28,7 @@ use Rattle.window.proofs.Fits.{sizes, copies, paints, flag-rows, row-ends}
 use Rattle.window.proofs.WalkMade.{walk-made}
 use Rattle.window.proofs.FlagsMade.{bytes-small}
 use Rattle.window.proofs.RowsMade.{first-made, past-made}
-use Rattle.sweep.specs.Buffers.{LaneCount}
+use Rattle.ways.specs.Buffers.{LaneCount}
 use Rattle.start.specs.Hits.{Room, startedLevels}
 use Rattle.field.specs.Grounds.{unreachableLevels}
 

@@ -9,8 +9,9 @@ use lib.ListN.{getD, length, set, length-set}
 use lib.Seq.{getD-set-other}
 use lib.Dec.{eqb}
 use Rattle.walkgraph.proofs.Lists.{placed-above}
-use Rattle.sweep.specs.Row.{outCell, outRow, backCell, backRow, bothRow, RowDone}
-use Rattle.sweep.specs.Visits.{Ground, State, Run, first, past, nextVersions, Visited, rowAt, feedAt, Turns, begins, leaves, goesDown, Sweeps}
+use Rattle.ways.specs.Row.{outCell, outRow, backCell, backRow, bothRow, RowDone}
+use Rattle.row.specs.Visits.{Ground, State, first, past, nextVersions, Visited, rowAt, feedAt}
+use Rattle.sweep.specs.Sweeps.{Run, Turns, begins, leaves, goesDown, Sweeps}
 
 -- ---- rows of levels: what stands past the last cell of a row
 module _ (lanes : ℕ) (flag : ℕ → ℕ) where

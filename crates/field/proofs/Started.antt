@@ -18,10 +18,10 @@ use Rattle.walkgraph.proofs.Count.{starts-written, started-ind}
 use Rattle.walkgraph.proofs.RelaxedRow.{RowQuiet}
 use Rattle.walkgraph.proofs.Skipping.{Feeds, Fresh, fresh-start}
 use Rattle.walkgraph.proofs.FieldCall.{shut, sources-in, lane-sound}
-use Rattle.sweep.proofs.Columns.{slot}
-use Rattle.sweep.proofs.RowLevels.{Holds}
-use Rattle.sweep.proofs.Turn.{versionAt, version-in, version-out, pulledAt, pulled-in, pulled-out, pullOf, never}
-use Rattle.sweep.proofs.SweepLevels.{Kept}
+use Rattle.plainsweeps.proofs.Columns.{slot}
+use Rattle.plainsweeps.proofs.RowLevels.{Holds}
+use Rattle.plainsweeps.proofs.Turn.{versionAt, version-in, version-out, pulledAt, pulled-in, pulled-out, pullOf, never}
+use Rattle.plainsweeps.proofs.SweepLevels.{Kept}
 
 -- the buffers of versions before the first sweep: `quiet` rows, and the padding above them, have pulled version 0
 pub record Unpulled (m : PaddedWindow) (quiet : ℕ) (versions downs ups : List ℕ) : Type 0 where

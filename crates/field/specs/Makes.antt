@@ -4,8 +4,10 @@ use mathlib.Core.List.{List}
 use Prim.Native.Nat.{ℕ, _+_, _-_, _≤_, min}
 use lib.IntN.{ℤ}
 use lib.ListN.{length}
-use Rattle.sweep.specs.Visits.{Ground, Ended}
-use Rattle.sweep.specs.Buffers.{groundOf, runOf, Window, Stops}
+use Rattle.row.specs.Visits.{Ground}
+use Rattle.sweep.specs.Sweeps.{Ended}
+use Rattle.row.specs.Buffers.{groundOf}
+use Rattle.sweep.specs.Buffers.{runOf, Window, Stops}
 use Rattle.field.specs.declared.site.Site.{Site}
 use Rattle.field.specs.Sites.{GoodSite}
 use Rattle.field.specs.Versions.{VersionBuffers, BeforeSweeps, AfterSweeps}

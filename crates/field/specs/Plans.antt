@@ -16,7 +16,7 @@ use Rattle.cells.specs.Boxes.{reach, boxOf}
 use Rattle.cells.specs.Rings.{AllRings}
 use Rattle.judge.specs.Grids.{greatest}
 use Rattle.window.specs.declared.record.Window.{Window}
-use Rattle.sweep.specs.Buffers.{LaneCount}
+use Rattle.ways.specs.Buffers.{LaneCount}
 use Rattle.field.specs.declared.plan.Lent.{Lent}
 use Rattle.field.specs.declared.plan.Plan.{Plan}
 use Rattle.field.specs.declared.plan.Plan.the-variants.{Refused, Nothing, Make}

@@ -4,7 +4,7 @@ use Prim.Native.Nat.{ℕ}
 use Rattle.walkgraph.specs.Window.{window}
 use Rattle.cells.specs.Boxes.{reach, boxOf}
 use Rattle.window.specs.Windows.{OnMap, windowOver}
-use Rattle.sweep.specs.Buffers.{LaneCount}
+use Rattle.ways.specs.Buffers.{LaneCount}
 use Rattle.field.specs.declared.site.Site.{Site}
 
 -- its boxes are on the map, its window is the one around them, and a cell has eight or sixteen lanes

@@ -4,7 +4,7 @@ use crate::versions;
 use sweep::run;
 use window::record;
 ghost use Prim.Native.Nat.{_+_};
-ghost use Rattle.sweep.specs.Buffers.{groundOf};
+ghost use Rattle.row.specs.Buffers.{groundOf};
 ghost use Rattle.field.specs.Makes.{quietRows, RelaxFits, Relaxed};
 
 // The sweeps over a site, with versions made before them and cleared after them: how many.

@@ -1,22 +1,18 @@
--- Levels: what a strip of a buffer reads, and how levels stand to half costs.
+-- Levels: a lane is told by its level, and how levels stand to half costs.
 use mathlib.Core.Path.{_≡_, ap}
-use mathlib.Core.List.{List}
 use Prim.Native.Nat.{ℕ, _+_, _-_, _<_, _≤_}
 use native.Mathlib.Omega.{arith}
 use native.Mathlib.Decide.{decLe}
-use lib.IntN.{ℤ, pos}
-use lib.ListN.{length, getD, set}
+use lib.IntN.{ℤ}
 use lib.Signed.{mag}
 use mir.Syntax.{w16}
 use mir.Val.{SFits, toZ, ofZ}
 use mir.ValLaws.{toZ-ofZ}
 use Rattle.walkgraph.specs.Lanes.{unreachable, bias, laneOf}
-use Rattle.walkgraph.proofs.Lists.{getD-tabulate}
 use Rattle.walkgraph.proofs.Signed.{subℕ-neg, subℕ-pos}
 use Rattle.walkgraph.proofs.Tests.{by-cases}
-use Rattle.lane.specs.Levels.{level, levelAt, lanesAt, HasLevels}
+use Rattle.lane.specs.Levels.{level}
 use Rattle.lane.proofs.Signed.{up-one}
-use Rattle.lane.proofs.Entries.{one-more, is-tabulate}
 
 -- a lane is told by its level
 pub level-one : (a b : ℤ) → mag a < 32768 → mag b < 32768 → level a ≡ level b → a ≡ b
@@ -25,22 +21,6 @@ level-one = up-one 32768
 -- a lane read back from its bits
 pub read : (lane : ℤ) → SFits w16 lane → level (toZ w16 (ofZ w16 lane)) ≡ level lane
 read lane f = ap level (toZ-ofZ w16 lane f)
-
--- a store more
-pub levels-more : {levels : ℕ → ℕ} (v : List ℤ) (k : ℕ) (x : ℤ) → k < length v → level x ≡ levels k → HasLevels k v levels → HasLevels (k + 1) (set v k x) levels
-levels-more {levels} v k x b e h = record { each = one-more (pos 0) (λ j x. level x ≡ levels j) v k x b e (h .each) }
-
--- lanes read from a buffer
-pub is-lanes : (lanes : List ℤ) (at count : ℕ) (v : List ℤ) → length v ≡ count → ((k : ℕ) → k < count → getD v k (pos 0) ≡ getD lanes (at + k) (pos 0)) → v ≡ lanesAt lanes at count
-unfolding lanesAt
-is-lanes lanes at count v e h = is-tabulate (pos 0) count _ v e h
-
-pub lane-at : (lanes : List ℤ) (at count k : ℕ) → k < count → getD (lanesAt lanes at count) k (pos 0) ≡ getD lanes (at + k) (pos 0)
-unfolding lanesAt
-lane-at lanes at count k h = getD-tabulate count _ (pos 0) k h
-
-pub levels-at : (lanes : List ℤ) (at count : ℕ) → HasLevels count (lanesAt lanes at count) (λ k. levelAt lanes (at + k))
-levels-at lanes at count = record { each = λ k h. ap level (lane-at lanes at count k h) }
 
 -- ---- half costs: the level of a half cost is the half cost and what the bias leaves of 32,768
 pub level-lane : (b : ℕ) → b ≤ 32768 → (v : ℕ) → level (laneOf b v) ≡ v + (32768 - b)

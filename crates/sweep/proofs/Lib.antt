@@ -1,14 +1,2 @@
-pub mod Strips
-pub mod Lanewise
-pub mod Passes
-pub mod Relax
-pub mod Windows
+-- The laws that the proofs of this crate cite.
 pub mod Runs
-pub mod LevelStep
-pub mod Gates
-pub mod Columns
-pub mod RowLevels
-pub mod RowResult
-pub mod Turn
-pub mod SweepLevels
-pub mod RunLevels

@@ -10,8 +10,10 @@ use native.Mathlib.Omega.{arith}
 use lib.Dec.{leb, eqb}
 use borrow.Author.Tests.{eq-eqb, ne-eqb, le-leb, lt-leb}
 use Rattle.walkgraph.proofs.Tests.{by-cases}
-use Rattle.sweep.specs.Visits.{Ground, State, Run, rowAt, feedAt, Visited, Turns, more, begins, leaves, goesDown, OneSweep, Sweeps, start, next, Ended}
-use Rattle.sweep.specs.Buffers.{Window, VisitFits, Stops}
+use Rattle.row.specs.Visits.{Ground, State, rowAt, feedAt, Visited}
+use Rattle.sweep.specs.Sweeps.{Run, Turns, more, begins, leaves, goesDown, OneSweep, Sweeps, start, next, Ended}
+use Rattle.sweep.specs.Buffers.{Window, Stops}
+use Rattle.row.specs.Buffers.{VisitFits}
 
 -- ---- the turns of a sweep
 

@@ -1,13 +1,14 @@
 // One sweep by its direction, and the alternating sweeps up to the first quiet one after the first.
-use crate::gate;
-use crate::visit;
+use row::visit;
+use ways::gate;
 ghost use mathlib.Core.Path.{_≡_};
 ghost use mathlib.Core.Bool.{false, cond};
 ghost use Prim.Native.Nat.{_+_, _≤_};
 ghost use lib.ListN.{length};
 ghost use lib.Dec.{leb};
-ghost use Rattle.sweep.specs.Visits.{Turns, OneSweep, Ended};
-ghost use Rattle.sweep.specs.Buffers.{groundOf, stateOf, runOf, Window, Stops};
+ghost use Rattle.sweep.specs.Sweeps.{Turns, OneSweep, Ended};
+ghost use Rattle.row.specs.Buffers.{groundOf, stateOf};
+ghost use Rattle.sweep.specs.Buffers.{runOf, Window, Stops};
 
 // One sweep over the rows of a window of height rows: whether a lane changed.
 pub fn sweep(

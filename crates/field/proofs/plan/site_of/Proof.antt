@@ -9,7 +9,7 @@ use Rattle.cells.proofs.Sources.{same-box, sources-in-map}
 use Rattle.judge.proofs.Accepted.{Span, span}
 use Rattle.window.specs.declared.record.Window.{Window}
 use Rattle.window.specs.Windows.{windowOver}
-use Rattle.sweep.specs.Buffers.{LaneCount}
+use Rattle.ways.specs.Buffers.{LaneCount}
 use Rattle.field.proofs.plan.site_of.Statement.{statement}
 use Rattle.field.proofs.plan.site_of.Tie as tie
 

@@ -3,7 +3,8 @@ use mathlib.Core.Path.{_≡_, refl, _∙_}
 use Prim.Native.Nat.{_-_, _^_}
 use native.Mathlib.Omega.{arith}
 use lib.ListN.{length}
-use Rattle.sweep.specs.Buffers.{groundOf, runOf, Stops}
+use Rattle.row.specs.Buffers.{groundOf}
+use Rattle.sweep.specs.Buffers.{runOf, Stops}
 use Rattle.sweep.proofs.Runs.{RunTo, run-start, run-next, run-ends}
 use Rattle.sweep.proofs.run.run.Statement.{statement}
 use Rattle.sweep.proofs.run.run.Tie as tie

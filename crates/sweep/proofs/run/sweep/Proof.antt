@@ -4,8 +4,8 @@ use mathlib.Core.Bool.{false}
 use Prim.Native.Nat.{_-_, _≤_}
 use native.Mathlib.Omega.{arith}
 use lib.ListN.{length}
-use Rattle.sweep.specs.Visits.{Turns, none}
-use Rattle.sweep.specs.Buffers.{groundOf, stateOf}
+use Rattle.sweep.specs.Sweeps.{Turns, none}
+use Rattle.row.specs.Buffers.{groundOf, stateOf}
 use Rattle.sweep.proofs.Runs.{visit-fits, turns-more}
 use Rattle.sweep.proofs.run.sweep.Statement.{statement}
 use Rattle.sweep.proofs.run.sweep.Tie as tie

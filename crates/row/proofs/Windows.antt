@@ -1,0 +1,46 @@
+-- What the buffers of a window hold: room for each row that a sweep visits.
+use mathlib.Core.Path.{_≡_}
+use mathlib.Core.Logic.{⊎-elim}
+use mathlib.Core.Bool.{Bool, true, false}
+use mathlib.Core.List.{List}
+use Prim.Native.Nat.{ℕ, _+_, _-_, _*_, _^_, _%_, _≤_, _<_}
+use native.Mathlib.Nat.{mul-le-mul-right, le-mul-of-pos-right}
+use native.Mathlib.Omega.{arith}
+use lib.ListN.{getD, set}
+use Rattle.ways.specs.Row.{RowDone}
+use Rattle.row.specs.Visits.{Ground, State, first, past, Visited, done}
+use Rattle.ways.specs.Buffers.{LaneCount, RowFits}
+use Rattle.row.specs.Buffers.{VisitFits}
+
+some-lanes : {lanes : ℕ} → LaneCount lanes → 1 ≤ lanes
+some-lanes l = ⊎-elim (λ e. omega arith) (λ e. omega arith) l
+
+module _ {lanes stride own feed : ℕ} {rows : List ℕ} {cells bytes versions pulled : ℕ} (fits : VisitFits lanes stride own feed rows cells bytes versions pulled) where
+  pub feed-fits : feed * stride + stride ≤ cells
+  feed-fits = omega (arith, fits .cells-feed, le-mul-of-pos-right (feed * stride + stride) (some-lanes (fits .count)))
+
+  -- the cells of the interval, in the row and in the row that feeds it
+  pub row-fits : getD rows (2 * own - 2) 0 < getD rows (2 * own - 1) 0 →
+      RowFits lanes (own * stride + getD rows (2 * own - 2) 0) (feed * stride + getD rows (2 * own - 2) 0) (getD rows (2 * own - 1) 0 - getD rows (2 * own - 2) 0) cells bytes
+  row-fits h =
+      let a = getD rows (2 * own - 2) 0 in
+      let b = getD rows (2 * own - 1) 0 in
+      let p : (own * stride + a + (b - a) + 1) * lanes ≤ (own * stride + stride) * lanes = mul-le-mul-right lanes (omega (arith, fits .last)) in
+      let q : (feed * stride + a + (b - a) + 1) * lanes ≤ (feed * stride + stride) * lanes = mul-le-mul-right lanes (omega (arith, fits .last)) in
+      record {
+        before = omega (arith, fits .low);
+        own = omega (arith, fits .cells-own);
+        low = omega (arith, fits .low);
+        fed = omega (arith, fits .cells-feed);
+        flags = omega (arith, fits .flags, fits .last);
+      }
+
+-- a row that was done, by the answer
+module _ {g : Ground} {down fresh answer : Bool} {y z : ℕ} {s : State} {levels : ℕ → ℕ} (some : first g y < past g y) (due : ¬ (getD (s .pulled) y 0 ≡ getD (s .versions) z 0))
+    (row : RowDone (g .lanes) (g .flag) down ((y * g .stride + first g y) * g .lanes) ((z * g .stride + first g y) * g .lanes) (y * g .stride + first g y) (past g y - first g y) (s .levels) levels fresh answer) where
+  pub done-changed : (version : ℕ) → answer ≡ true → version ≡ (getD (s .versions) y 0 + 1) % 2 ^ 32 →
+      Visited g down fresh y z s (record { levels = levels; versions = set (s .versions) y version; pulled = set (s .pulled) y (getD (s .versions) z 0); changed = true })
+  done-changed version e f = rw f (done {changed = true} some due (rw e at row))
+
+  pub done-same : answer ≡ false → Visited g down fresh y z s (record { levels = levels; versions = s .versions; pulled = set (s .pulled) y (getD (s .versions) z 0); changed = s .changed })
+  done-same e = done {changed = false} some due (rw e at row)

@@ -1,0 +1,54 @@
+-- `row::relax`: the way back where the way out changed something, where the row is fresh, or not at all.
+use Rattle.row.proofs.Relax.{relaxed-changed, relaxed-both, relaxed-kept}
+use borrow.Author.Needs.{needs}
+use Rattle.row.proofs.row.relax.Statement.{statement}
+use Rattle.row.proofs.row.relax.Tie as tie
+
+out-requires : tie.Need-out-requires
+out-requires c κs = search needs
+
+add-back : tie.Need-add-back
+add-back c = search needs
+
+back-requires : tie.Need-back-requires
+back-requires c κs = search needs
+
+same-length : tie.Need-same-length
+same-length c = search needs
+
+returns : tie.Need-returns
+returns c = relaxed-changed (c .before .before .before .before .before .out .ensures) (c .before .before .before .if1 .taken) (c .before .back .ensures)
+
+add-back-2 : tie.Need-add-back-2
+add-back-2 c = search needs
+
+back-requires-2 : tie.Need-back-requires-2
+back-requires-2 c κs = search needs
+
+same-length-2 : tie.Need-same-length-2
+same-length-2 c = search needs
+
+returns-2 : tie.Need-returns-2
+returns-2 c = relaxed-both (c .before .before .before .before .before .before .out .ensures) (c .before .before .before .before .if1 .left) (c .before .before .before .if2 .taken) (c .before .back2 .ensures)
+
+same-length-3 : tie.Need-same-length-3
+same-length-3 c = search needs
+
+returns-3 : tie.Need-returns-3
+returns-3 c = relaxed-kept (c .before .before .before .out .ensures) (c .before .if1 .left) (c .if2 .left)
+
+pub relax-spec : {M : Type 1} → statement M
+relax-spec =
+    tie.close
+    (tie.spec
+    out-requires
+    add-back
+    back-requires
+    same-length
+    returns
+    add-back-2
+    back-requires-2
+    same-length-2
+    returns-2
+    same-length-3
+    returns-3)

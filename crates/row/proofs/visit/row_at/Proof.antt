@@ -1,0 +1,19 @@
+-- `visit::row_at`: by the direction.
+use borrow.Author.Needs.{needs}
+use Rattle.row.proofs.visit.row_at.Statement.{statement}
+use Rattle.row.proofs.visit.row_at.Tie as tie
+
+add-result : tie.Need-add-result
+add-result c = search needs
+
+sub-result : tie.Need-sub-result
+sub-result c = search needs
+
+returns : tie.Need-returns
+returns c = rw (c .if1 .taken)
+
+returns-2 : tie.Need-returns-2
+returns-2 c = rw (c .if1 .left)
+
+pub row-at-spec : {M : Type 1} → statement M
+row-at-spec = tie.close (tie.spec add-result sub-result returns returns-2)

@@ -1,0 +1,3 @@
+-- What the contracts of this crate speak of: strips by their levels, and marks of change.
+pub mod Strips
+pub mod Marks

@@ -1,0 +1,62 @@
+// Gates: a strip of 32,767 shuts, a strip of -32,768 lets lanes through.
+ghost use mathlib.Core.Path.{_≡_};
+ghost use Prim.Native.Nat.{_*_, _/_, _%_};
+ghost use Rattle.ways.specs.Row as spec;
+ghost use Rattle.ways.specs.Buffers.{Gates};
+
+// Eight shut gates, then eight open ones.
+pub fn gates() -> [i16; 16]
+    ensures { λ r. ⌜ Gates r ⌝ }
+{
+    [
+        32767,
+        32767,
+        32767,
+        32767,
+        32767,
+        32767,
+        32767,
+        32767,
+        -32768,
+        -32768,
+        -32768,
+        -32768,
+        -32768,
+        -32768,
+        -32768,
+        -32768,
+    ]
+}
+
+// A flag byte as an index.
+pub fn wide(flag: u8) -> usize
+    ensures { λ r. ⌜ r ≡ flag ⌝ }
+{
+    flag as usize
+}
+
+// The flags of a sweep's two diagonals, moved down to the bits 2 and 4.
+pub fn turned(flag: usize, down: bool) -> usize
+    ensures { λ r. ⌜ r ≡ spec.turned down flag ⌝ }
+{
+    if down { flag } else { flag / 4 }
+}
+
+// Where the gates of walking, of the diagonal from the left and of that from the right start.
+pub fn walk_gate(flag: usize) -> usize
+    ensures { λ r. ⌜ r ≡ flag % 2 * 8 ⌝ }
+{
+    flag % 2 * 8
+}
+
+pub fn west_gate(flag: usize) -> usize
+    ensures { λ r. ⌜ r ≡ flag / 2 % 2 * 8 ⌝ }
+{
+    flag / 2 % 2 * 8
+}
+
+pub fn east_gate(flag: usize) -> usize
+    ensures { λ r. ⌜ r ≡ flag / 4 % 2 * 8 ⌝ }
+{
+    flag / 4 % 2 * 8
+}

@@ -1,0 +1,3 @@
+// The two ways along a row of a sweep, cell by cell: gates, and what one cell takes.
+pub mod cell;
+pub mod gate;
