@@ -18,16 +18,19 @@ use Rattle.cells.specs.declared.ring.CellBox.{CellBox}
 use Rattle.cells.specs.Boxes.{reach, boxOf}
 use Rattle.window.specs.declared.record.Window.{Window}
 use Rattle.window.specs.Windows.{windowOver, OnMap}
-use Rattle.window.specs.Fills.{entries, zeros, windowRows}
-use Rattle.window.specs.Copies.{Copies, mapRows}
-use Rattle.window.specs.Painting.{Paints, blockersPainted}
-use Rattle.window.specs.Flags.{AreBits, FlagRows, flagRows}
-use Rattle.window.specs.Filled.{cleared, walkFilled, flagsFilled}
-use Rattle.window.specs.Intervals.{RowEnds, rowsFilled}
-use Rattle.window.proofs.Fits.{sizes, copies, paints, flag-rows, row-ends}
-use Rattle.window.proofs.WalkMade.{walk-made}
-use Rattle.window.proofs.FlagsMade.{bytes-small}
-use Rattle.window.proofs.RowsMade.{first-made, past-made}
+use Rattle.window.specs.Fills.{entries, zeros, windowRows, AreBits, cleared}
+use Rattle.walkbytes.specs.Copies.{Copies, mapRows}
+use Rattle.walkbytes.specs.Painting.{Paints, blockersPainted}
+use Rattle.flags.specs.Flags.{FlagRows, flagRows, flagsFilled}
+use Rattle.walkbytes.specs.Filled.{walkFilled}
+use Rattle.intervals.specs.Intervals.{RowEnds, rowsFilled}
+use Rattle.window.proofs.Fits.{sizes}
+use Rattle.walkbytes.proofs.Fits.{copies, paints}
+use Rattle.flags.proofs.Fits.{flag-rows}
+use Rattle.intervals.proofs.Fits.{row-ends}
+use Rattle.walkbytes.proofs.WalkMade.{walk-made}
+use Rattle.flags.proofs.FlagsMade.{bytes-small}
+use Rattle.intervals.proofs.RowsMade.{first-made, past-made}
 use Rattle.ways.specs.Buffers.{LaneCount}
 use Rattle.start.specs.Hits.{Room, startedLevels}
 use Rattle.field.specs.Grounds.{unreachableLevels}

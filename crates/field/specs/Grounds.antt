@@ -7,7 +7,7 @@ use lib.IntN.{ℤ}
 use Rattle.walkgraph.specs.Lists.{placed}
 use Rattle.cells.specs.Rings.{AllRings}
 use Rattle.window.specs.declared.record.Window.{Window}
-use Rattle.window.specs.Flags.{AreBits}
+use Rattle.window.specs.Fills.{AreBits}
 use Rattle.field.specs.declared.site.Site.{Site}
 use Rattle.field.specs.Sites.{GoodSite}
 

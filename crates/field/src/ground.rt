@@ -1,19 +1,19 @@
 // The ground of a field: its walk bytes, flags and row intervals, and its lanes before the first sweep.
 use crate::site::Site;
+use intervals::rows;
 use start;
-use window::flags;
-use window::paint;
+use walkbytes::paint;
+use walkbytes::walk;
 use window::record;
-use window::rows;
-use window::walk;
 ghost use mathlib.Core.Path.{_≡_};
 ghost use Prim.Native.Nat.{_/_};
 ghost use lib.ListN.{length};
 ghost use Rattle.cells.specs.Boxes.{boxOf};
 ghost use Rattle.lane.specs.Levels.{levelAt};
 ghost use Rattle.window.specs.Fills.{entries};
-ghost use Rattle.window.specs.Filled.{walkFilled, flagsFilled};
-ghost use Rattle.window.specs.Intervals.{rowsFilled};
+ghost use Rattle.walkbytes.specs.Filled.{walkFilled};
+ghost use Rattle.flags.specs.Flags.{flagsFilled};
+ghost use Rattle.intervals.specs.Intervals.{rowsFilled};
 ghost use Rattle.start.specs.Hits.{startedLevels, lanesHit};
 ghost use Rattle.field.specs.Grounds.{GroundFits, BeginFits, unreachableLevels};
 

@@ -6,9 +6,11 @@ use native.Mathlib.Nat.{suc-mul, add-mul, mul-le-mul-right}
 use native.Mathlib.Decide.{decLe, ℕ-discrete}
 use native.Mathlib.Omega.{arith}
 use Rattle.walkgraph.proofs.Tests.{by-cases}
+use Rattle.walkgraph.proofs.Places.{flat-lt}
 use Rattle.walkgraph.proofs.Lists.{placed-in, placed-below, placed-above}
 use Rattle.window.specs.declared.record.Window.{Window}
-use Rattle.window.specs.Fills.{rowsPlaced, windowRows}
+use Rattle.window.specs.Fills.{zeros, rowsPlaced, windowRows, cleared}
+use Rattle.window.proofs.Fills.{placed-front, placed-past}
 
 -- the index i is in none of the n rows
 abbrev Beside : (start stride count n i : ℕ) → Type 0
@@ -110,3 +112,12 @@ module _ (w : Window) (before : ℕ → ℕ) (new : ℕ → ℕ → ℕ) where
   pub window-past : (i : ℕ) → (w .height + 2) * s ≤ i → windowRows w before new i ≡ before i
   unfolding windowRows
   window-past i h = rw at-one (cell-past before s 1 1 (w .height) (w .width) new (w .height + 2) i (λ k. omega arith) (λ k. omega arith) h)
+
+-- the cells of a cleared window, and what lies past them
+pub cleared-at : (w : Window) (before : ℕ → ℕ) (x y : ℕ) → x < w .width + 2 → y < w .height + 2 → cleared w before (y * (w .width + 2) + x) ≡ 0
+unfolding cleared
+cleared-at w before x y h k = placed-front before ((w .height + 2) * (w .width + 2)) zeros (y * (w .width + 2) + x) (flat-lt h k)
+
+pub cleared-past : (w : Window) (before : ℕ → ℕ) (i : ℕ) → (w .height + 2) * (w .width + 2) ≤ i → cleared w before i ≡ before i
+unfolding cleared
+cleared-past w before i h = placed-past before ((w .height + 2) * (w .width + 2)) zeros i h

@@ -1,6 +1,2 @@
-// The window, and what it holds before the first sweep: walk bytes, flags and row intervals.
-pub mod flags;
-pub mod paint;
+// The window of a field call.
 pub mod record;
-pub mod rows;
-pub mod walk;

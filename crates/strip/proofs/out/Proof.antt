@@ -107,8 +107,7 @@ loop-again : tie.Need-loop-again Inv-loop μ-loop
 loop-again c =
     let m = c .before .before .before .before .before .before .before .before .before .before in
     let a = m .before .args in
-    let k = m .loop .k in
-    (
+    let k = m .loop .k in (
       omega arith,
       simp length-set (omega arith),
       levels-more (m .loop .strip) k _ (omega arith)

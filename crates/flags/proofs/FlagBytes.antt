@@ -1,0 +1,63 @@
+-- Flags of walk bytes.
+use mathlib.Core.Path.{_≡_, _∙_, ap}
+use mathlib.Core.List.{List}
+use Prim.Native.Nat.{ℕ, _+_, _*_, _-_, _≤_, _<_}
+use native.Mathlib.Nat.{mul-le-mul}
+use native.Mathlib.Decide.{ℕ-discrete}
+use native.Mathlib.Omega.{arith}
+use lib.ListN.{take, drop}
+use Rattle.walkgraph.proofs.Tests.{by-cases}
+use Rattle.window.specs.Fills.{entries}
+use Rattle.window.specs.declared.record.Window.{Window}
+use Rattle.flags.specs.Flags.{flagsOf, flagAt, FlagRowAt, FlagRows}
+use Rattle.window.proofs.Fills.{part-entries, row-room}
+
+-- two bytes that are 0 or 1, and the flag that both of them set
+pub bit-product : (a b : ℕ) → a ≤ 1 → b ≤ 1 → a * b ≤ 1
+bit-product a b p q = mul-le-mul p q
+
+pub both-bits : (a b flag : ℕ) → a ≤ 1 → b ≤ 1 → a + b ≡ 2 → flag ≡ flag * (a * b)
+both-bits a b flag p q e =
+    let f : a ≡ 1 = omega arith in
+    let g : b ≡ 1 = omega arith in
+    rw (f, g) (omega arith)
+
+pub not-both : (a b flag : ℕ) → a ≤ 1 → b ≤ 1 → ¬ (a + b ≡ 2) → 0 ≡ flag * (a * b)
+not-both a b flag p q n =
+    by-cases (ℕ-discrete a 0)
+    (λ e. rw e (omega arith))
+    (λ e. let f : b ≡ 0 = by-cases (ℕ-discrete b 0) (λ g. g) (λ g. absurd (n (omega arith))) in rw f (omega arith))
+
+-- the flags at an index, by the indices of its neighbours
+pub flag-at : (walk : ℕ → ℕ) (stride i c w e n s : ℕ) → i ≡ c → i - 1 ≡ w → i + 1 ≡ e → i - stride ≡ n → i + stride ≡ s →
+    flagAt walk stride i ≡ flagsOf (walk c) (walk w) (walk e) (walk n) (walk s)
+unfolding flagAt
+flag-at walk stride i c w e n s p q r t u = cc
+
+-- of the middle one of three rows of a part that starts one row above
+pub flag-part : (walk : List ℕ) (stride row x : ℕ) → stride ≤ row → x + 2 ≤ stride →
+    flagAt (entries (take (3 * stride) (drop (row - stride) walk))) stride (stride + 1 + x) ≡ flagAt (entries walk) stride (row + 1 + x)
+unfolding flagAt
+flag-part walk stride row x h k =
+    let a = same (stride + 1 + x) (row + 1 + x) (omega arith) (omega arith) in
+    let b = same (stride + 1 + x - 1) (row + 1 + x - 1) (omega arith) (omega arith) in
+    let d = same (stride + 1 + x + 1) (row + 1 + x + 1) (omega arith) (omega arith) in
+    let e = same (stride + 1 + x - stride) (row + 1 + x - stride) (omega arith) (omega arith) in
+    let f = same (stride + 1 + x + stride) (row + 1 + x + stride) (omega arith) (omega arith) in
+    cc
+  where
+    same : (k i : ℕ) → k < 3 * stride → row - stride + k ≡ i → entries (take (3 * stride) (drop (row - stride) walk)) k ≡ entries walk i
+    same k i l e = part-entries (row - stride) (3 * stride) walk k l ∙ ap (entries walk) e
+
+-- row y of a window
+pub row-fits : {w : Window} {walk : List ℕ} {flags now stride row : ℕ} → FlagRows w walk flags → (y : ℕ) → stride ≡ w .width + 2 → row ≡ stride + y * stride → y < w .height → now ≡ flags →
+    FlagRowAt walk stride now row (w .width)
+row-fits {w} {walk} {flags} {now} {stride} {row} f y e r h n =
+    let p : stride + y * stride + 2 * stride ≤ (w .height + 2) * (w .width + 2) = rw e (row-room y (w .height) (w .width + 2) h) in
+    record {
+      columns = omega arith;
+      above = omega arith;
+      below = omega (arith, f .bytes);
+      room = omega (arith, f .room);
+      bits = λ k l. f .bits k (omega arith);
+    }

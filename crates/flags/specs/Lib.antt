@@ -1,0 +1,2 @@
+-- What the contracts of this crate speak of: flag bytes.
+pub mod Flags

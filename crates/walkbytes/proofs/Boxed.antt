@@ -1,0 +1,80 @@
+-- Painting a box of cells, and one box after the other.
+use mathlib.Core.Path.{_≡_, refl}
+use mathlib.Core.List.{List}
+use Prim.Native.Nat.{ℕ, _+_, _*_, _-_, _/_, _≤_, _<_, max}
+use native.Mathlib.Nat.{mul-le-mul, add-mul}
+use native.Mathlib.Numerals.{add-one}
+use native.Mathlib.Omega.{arith}
+use lib.IntN.{ℤ, pos, negsuc}
+use lib.ListN.{getD}
+use borrow.Author.Tests.{lt-ltb, le-ltb}
+use Rattle.walkgraph.specs.Painting.{rectangle, clamp}
+use Rattle.walkgraph.proofs.Places.{flat-lt}
+use Rattle.window.specs.declared.record.Window.{Window}
+use Rattle.window.specs.Fills.{zeros, rowsPlaced}
+use Rattle.walkbytes.specs.Painting.{PaintRows, Paints, Pixels, fromCell, pastCell, boxPainted, blockersPainted}
+
+clamp-most : (limit : ℕ) (z : ℤ) → clamp limit z ≤ limit
+unfolding clamp
+clamp-most limit (pos n) = omega arith
+clamp-most limit (negsuc n) = omega arith
+
+pub clamped : {pixel : ℕ} (size : ℕ) (z : ℤ) → size ≤ 1024 → pixel ≡ clamp (8 * size) z → pixel ≤ 8192
+clamped size z h e = omega (arith, clamp-most (8 * size) z)
+
+product-most : (a s : ℕ) → a ≤ 1025 → s ≤ 1026 → a * s ≤ 1051650
+product-most a s p q = mul-le-mul p q
+
+-- where the first painted row starts
+pub start-row : {w : Window} {walk left top right bottom cell y0 s : ℕ} → Paints w walk → Pixels left top right bottom → y0 ≡ max cell (w .top) → cell ≡ top / 8 → s ≡ w .width + 2 →
+    (y0 - w .top + 1) * s ≤ 1051650
+start-row {w} {walk} {left} {top} {right} {bottom} {cell} {y0} {s} p q e f g =
+    let c = p .columns in
+    let r = p .rows in
+    let t = q .from-top in
+    product-most (y0 - w .top + 1) s (omega arith) (omega arith)
+
+-- the cells from (x0, y0) up to (x1, y1), in the window
+pub box-fits : {w : Window} {walk : ℕ} → Paints w walk → (s x0 y0 x1 y1 : ℕ) → s ≡ w .width + 2 → w .left ≤ x0 → x0 ≤ 1024 → w .top ≤ y0 → y0 ≤ 1024 →
+    x1 ≤ w .left + w .width → y1 ≤ w .top + w .height → PaintRows s ((y0 - w .top + 1) * s + (x0 - w .left + 1)) (y1 - y0) (x1 - x0) walk
+box-fits {w} {walk} p s x0 y0 x1 y1 e a b c d f g =
+    let i = p .columns in
+    let j = p .rows in
+    let k = product-most (y0 - w .top + 1) s (omega arith) (omega arith) in
+    let l = product-most (y1 - y0) s (omega arith) (omega arith) in
+    record {
+      fits = omega arith;
+      each = λ y x q r.
+          let m : (y0 - w .top + 1 + y) * s + (x0 - w .left + 1 + x) < (w .height + 2) * s =
+          let t : x0 - w .left + 1 + x < s = omega arith in
+          let u : y0 - w .top + 1 + y < w .height + 2 = omega arith in flat-lt t u in
+          let n : (w .height + 2) * s ≤ walk = rw e (p .room) in
+          omega (arith, add-mul (y0 - w .top + 1) y s);
+    }
+
+module _ (w : Window) (left top right bottom : ℕ) (before : ℕ → ℕ) where
+  pub box-thin : right ≤ left → before ≡ boxPainted w left top right bottom before
+  unfolding boxPainted
+  box-thin h = rw (le-ltb left right h)
+
+  pub box-flat : left < right → bottom ≤ top → before ≡ boxPainted w left top right bottom before
+  unfolding boxPainted
+  box-flat k h = rw (lt-ltb left right k, le-ltb top bottom h)
+
+  pub box-done : (after : ℕ → ℕ) (s x0 y0 x1 y1 : ℕ) → left < right → top < bottom → s ≡ w .width + 2 → x0 ≡ fromCell left (w .left) → y0 ≡ fromCell top (w .top) →
+      x1 ≡ pastCell right (w .left) (w .width) → y1 ≡ pastCell bottom (w .top) (w .height) →
+      after ≡ rowsPlaced before ((y0 - w .top + 1) * s + (x0 - w .left + 1)) s (y1 - y0) (x1 - x0) (λ y. zeros) → after ≡ boxPainted w left top right bottom before
+  unfolding boxPainted
+  box-done after s x0 y0 x1 y1 h k e f g i j l = rw (lt-ltb left right h, lt-ltb top bottom k) (rw (e, f, g, i, j) at l)
+
+module _ (w : Window) (width height : ℕ) (blockers : List ℤ) (before : ℕ → ℕ) where
+  pub blockers-none : before ≡ blockersPainted w width height blockers 0 before
+  unfolding blockersPainted
+  blockers-none = refl
+
+  pub blockers-more : (n : ℕ) (now after : ℕ → ℕ) (left top right bottom : ℕ) → left ≡ clamp (8 * width) (getD blockers (4 * n) (pos 0)) →
+      top ≡ clamp (8 * height) (getD blockers (4 * n + 1) (pos 0)) → right ≡ clamp (8 * width) (getD blockers (4 * n + 2) (pos 0)) →
+      bottom ≡ clamp (8 * height) (getD blockers (4 * n + 3) (pos 0)) → now ≡ blockersPainted w width height blockers n before →
+      after ≡ boxPainted w left top right bottom now → after ≡ blockersPainted w width height blockers (n + 1) before
+  unfolding blockersPainted rectangle
+  blockers-more n now after left top right bottom e f g h i j = rw (add-one n) (rw (e, f, g, h, i) at j)

@@ -1,0 +1,153 @@
+-- `window::paint::paint_box`: nothing is painted of a rectangle without width or height; else the rows of its cells in the window, which lie in the buffer.
+use native.Mathlib.Omega.{arith}
+use Rattle.walkbytes.proofs.Boxed.{start-row, box-fits, box-thin, box-flat, box-done}
+use borrow.Author.Needs.{needs}
+use Rattle.walkbytes.proofs.paint.paint_box.Statement.{statement}
+use Rattle.walkbytes.proofs.paint.paint_box.Tie as tie
+
+returns : tie.Need-returns
+returns c = let a = c .before .before .args in box-thin (a .window) (a .left) (a .top) (a .right) (a .bottom) _ (c .if1 .taken)
+
+returns-2 : tie.Need-returns-2
+returns-2 c = let a = c .before .before .before .args in box-flat (a .window) (a .left) (a .top) (a .right) (a .bottom) _ (c .before .if1 .left) (c .if2 .taken)
+
+stride-requires : tie.Need-stride-requires
+stride-requires c κs = search needs
+
+cell-of-requires : tie.Need-cell-of-requires
+cell-of-requires c κs = search needs
+
+most-requires : tie.Need-most-requires
+most-requires c κs = search needs
+
+cell-of-requires-2 : tie.Need-cell-of-requires-2
+cell-of-requires-2 c κs = search needs
+
+most-requires-2 : tie.Need-most-requires-2
+most-requires-2 c κs = search needs
+
+cell-past-requires : tie.Need-cell-past-requires
+cell-past-requires c κs = search needs
+
+add-least : tie.Need-add-least
+add-least c = search needs
+
+least-requires : tie.Need-least-requires
+least-requires c κs = search needs
+
+cell-past-requires-2 : tie.Need-cell-past-requires-2
+cell-past-requires-2 c κs = search needs
+
+add-least-2 : tie.Need-add-least-2
+add-least-2 c = search needs
+
+least-requires-2 : tie.Need-least-requires-2
+least-requires-2 c κs = search needs
+
+sub-first : tie.Need-sub-first
+sub-first c = search needs
+
+add-first : tie.Need-add-first
+add-first c = search needs
+
+mul-first : tie.Need-mul-first
+mul-first c =
+    let y0 = c .before .before .before .before .before .before .before in
+    let s = y0 .before .before .before .before in
+    let p = s .before .before .before .before .pre in
+    omega (arith, start-row (p .0) (p .1) (y0 .most2 .ensures) (y0 .before .cell-of2 .ensures) (s .stride .ensures))
+
+sub-first-2 : tie.Need-sub-first-2
+sub-first-2 c = search needs
+
+add-first-2 : tie.Need-add-first-2
+add-first-2 c = search needs
+
+add-first-3 : tie.Need-add-first-3
+add-first-3 c =
+    let y0 = c .before .before .before .before .before .before .before .before in
+    let x0 = y0 .before .before in
+    let s = x0 .before .before in
+    let p = s .before .before .before .before .pre in
+    omega (
+      arith,
+      start-row (p .0) (p .1) (y0 .most2 .ensures) (y0 .before .cell-of2 .ensures) (s .stride .ensures),
+      p .1 .from-left,
+      p .0 .columns,
+      x0 .most .ensures,
+      x0 .before .cell-of .ensures,
+    )
+
+past-requires : tie.Need-past-requires
+past-requires c κs = search needs
+
+past-requires-2 : tie.Need-past-requires-2
+past-requires-2 c κs = search needs
+
+paint-rows-requires : tie.Need-paint-rows-requires
+paint-rows-requires c κs =
+    let y1 = c .before .before .before .before .before in
+    let x1 = y1 .before .before .before in
+    let y0 = x1 .before .before .before in
+    let x0 = y0 .before .before in
+    let s = x0 .before .before in
+    let p = s .before .before .before .before .pre in
+    let i = x0 .most .ensures in
+    let j = x0 .before .cell-of .ensures in
+    let k = y0 .most2 .ensures in
+    let l = y0 .before .cell-of2 .ensures in
+    let m = x1 .least .ensures in
+    let n = y1 .least2 .ensures in
+    let g = p .1 .from-left in
+    let h = p .1 .from-top in
+    let q = p .0 .columns in
+    let r = p .0 .rows in
+    rw (c .before .past .ensures, c .past2 .ensures)
+    (box-fits (p .0) _ _ _ _ _ (s .stride .ensures) (omega arith) (omega arith) (omega arith) (omega arith) (omega arith) (omega arith))
+
+same-length : tie.Need-same-length
+same-length c = search needs
+
+returns-3 : tie.Need-returns-3
+returns-3 c =
+    let y1 = c .before .before .before .before .before .before .before .before in
+    let x1 = y1 .before .before .before in
+    let y0 = x1 .before .before .before in
+    let x0 = y0 .before .before in
+    let s = x0 .before .before in
+    let a = s .before .before .before .before .args in
+    box-done (a .window) (a .left) (a .top) (a .right) (a .bottom) _ _ (s .stride .result) (x0 .most .result) (y0 .most2 .result) (x1 .least .result) (y1 .least2 .result) (s .before .before .if1 .left) (s .before .if2 .left) (s .stride .ensures)
+    (omega (arith, x0 .before .cell-of .ensures, x0 .most .ensures))
+    (omega (arith, y0 .before .cell-of2 .ensures, y0 .most2 .ensures))
+    (omega (arith, x1 .before .before .cell-past .ensures, x1 .least .ensures))
+    (omega (arith, y1 .before .before .cell-past2 .ensures, y1 .least2 .ensures))
+    (rw (c .before .before .before .before .past .ensures, c .before .before .before .past2 .ensures) at (c .before .before .paint-rows .ensures))
+
+pub paint-box-spec : {M : Type 1} → statement M
+paint-box-spec =
+    tie.close
+    (tie.spec
+    returns
+    returns-2
+    stride-requires
+    cell-of-requires
+    most-requires
+    cell-of-requires-2
+    most-requires-2
+    cell-past-requires
+    add-least
+    least-requires
+    cell-past-requires-2
+    add-least-2
+    least-requires-2
+    sub-first
+    add-first
+    mul-first
+    sub-first-2
+    add-first-2
+    add-first-3
+    past-requires
+    past-requires-2
+    paint-rows-requires
+    same-length
+    returns-3)

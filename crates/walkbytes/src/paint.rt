@@ -1,0 +1,76 @@
+// Painting: blockers make walk bytes unwalkable.
+use cells::edge;
+use window::record;
+use window::record::Window;
+ghost use mathlib.Core.Path.{_≡_};
+ghost use Prim.Native.Nat.{ℕ, _+_, _/_, _≤_, _<_};
+ghost use lib.ListN.{length};
+ghost use Rattle.walkgraph.specs.Lists.{placed};
+ghost use Rattle.window.specs.Fills.{entries, zeros, rowsPlaced};
+ghost use Rattle.walkbytes.specs.Painting.{PaintRows, Paints, Pixels, boxPainted, blockersPainted};
+
+// Writes 0 to count bytes from an index on.
+pub fn paint_row(walk: &mut [u8], from: usize, count: usize)
+    requires { ⌜ ((x : ℕ) → x < count → from + x < length (now walk)) ⌝ }
+    ensures { λ _. ⌜ entries (now (walk .exit)) ≡ placed (entries (now (walk .entry))) from count zeros ⌝ }
+{
+    for x in 0..count {
+        walk[from + x] = 0;
+    }
+}
+
+// Paints rows of count bytes, the first from an index on.
+pub fn paint_rows(walk: &mut [u8], stride: usize, first: usize, rows: usize, count: usize)
+    requires { ⌜ PaintRows stride first rows count (length (now walk)) ⌝ }
+    ensures { λ _. ⌜ entries (now (walk .exit)) ≡ rowsPlaced (entries (now (walk .entry))) first stride rows count (λ _. zeros) ⌝ }
+{
+    let mut from = first;
+    for y in 0..rows {
+        paint_row(walk, from, count);
+        from += stride;
+    }
+}
+
+// Paints the cells of a rectangle of clamped pixels that lie in the window.
+pub fn paint_box(
+    walk: &mut [u8],
+    window: Window,
+    left: usize,
+    top: usize,
+    right: usize,
+    bottom: usize,
+)
+    requires { ⌜ Paints window (length (now walk)) × Pixels left top right bottom ⌝ }
+    ensures { λ _. ⌜ entries (now (walk .exit)) ≡ boxPainted window left top right bottom (entries (now (walk .entry))) ⌝ }
+{
+    if right <= left {
+        return;
+    }
+    if bottom <= top {
+        return;
+    }
+    let stride = record::stride(window);
+    let x0 = edge::most(edge::cell_of(left), window.left);
+    let y0 = edge::most(edge::cell_of(top), window.top);
+    let x1 = edge::least(edge::cell_past(right), window.left + window.width);
+    let y1 = edge::least(edge::cell_past(bottom), window.top + window.height);
+    let first = (y0 - window.top + 1) * stride + (x0 - window.left + 1);
+    paint_rows(walk, stride, first, edge::past(y0, y1), edge::past(x0, x1));
+}
+
+// Paints all blockers, on a map of width by height.
+pub fn paint(walk: &mut [u8], blockers: &[i32], window: Window, width: usize, height: usize)
+    requires { ⌜ Paints window (length (now walk)) × (width ≤ 1024) × (height ≤ 1024) ⌝ }
+    ensures { λ _. ⌜ entries (now (walk .exit)) ≡ blockersPainted window width height (now (blockers .entry)) (length (now (blockers .entry)) / 4) (entries (now (walk .entry))) ⌝ }
+{
+    for k in 0..blockers.len() / 4 {
+        paint_box(
+            walk,
+            window,
+            edge::clamp(blockers[4 * k], width),
+            edge::clamp(blockers[4 * k + 1], height),
+            edge::clamp(blockers[4 * k + 2], width),
+            edge::clamp(blockers[4 * k + 3], height),
+        );
+    }
+}
