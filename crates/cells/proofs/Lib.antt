@@ -1,6 +1,4 @@
+-- Laws of tests, casts and gaps.
 pub mod Bools
 pub mod Casts
 pub mod Gaps
-pub mod Sides
-pub mod Search
-pub mod Sources

@@ -4,7 +4,7 @@ use Prim.Native.Nat.{ℕ, _+_, _*_, _≤_, _<_}
 use lib.Dec.{leb}
 use Rattle.walkgraph.specs.Map.{Box}
 use Rattle.walkgraph.specs.Window.{gap, octile}
-use Rattle.cells.specs.declared.ring.CellBox.{CellBox}
+use Rattle.cells.specs.declared.boxes.CellBox.{CellBox}
 
 -- how far a walk in the cap reaches, in straight steps: the code's REACH
 abbrev pub reach : ℕ

@@ -1,6 +1,6 @@
 // The gap of a value to an interval, octile cost, and the inside of a window.
+use crate::boxes::CellBox;
 use crate::edge;
-use crate::ring::CellBox;
 ghost use mathlib.Core.Path.{_≡_};
 ghost use Prim.Native.Nat.{_≤_};
 ghost use Rattle.walkgraph.specs.Window.{gap, octile};

@@ -1,4 +1,4 @@
-// Pixels to cells, window edges, gaps, and the body and ring box of a resource: document 01, "Ring" to "Inside", in numbers.
+// Pixels to cells, window edges, gaps and the inside: document 01, "Ring" to "Inside", in numbers.
+pub mod boxes;
 pub mod edge;
 pub mod gap;
-pub mod ring;

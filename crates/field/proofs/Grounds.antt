@@ -14,7 +14,7 @@ use Rattle.walkgraph.specs.Painting.{painted}
 use Rattle.walkgraph.specs.Buffers.{paddedCells}
 use Rattle.walkgraph.specs.Window.{window}
 use Rattle.walkgraph.proofs.Intervals.{row-interval}
-use Rattle.cells.specs.declared.ring.CellBox.{CellBox}
+use Rattle.cells.specs.declared.boxes.CellBox.{CellBox}
 use Rattle.cells.specs.Boxes.{reach, boxOf}
 use Rattle.window.specs.declared.record.Window.{Window}
 use Rattle.window.specs.Windows.{windowOver, OnMap}
@@ -32,7 +32,8 @@ use Rattle.walkbytes.proofs.WalkMade.{walk-made}
 use Rattle.flags.proofs.FlagsMade.{bytes-small}
 use Rattle.intervals.proofs.RowsMade.{first-made, past-made}
 use Rattle.ways.specs.Buffers.{LaneCount}
-use Rattle.start.specs.Hits.{Room, startedLevels}
+use Rattle.start.specs.Hits.{Room}
+use Rattle.startcells.specs.Hits.{startedLevels}
 use Rattle.field.specs.Grounds.{unreachableLevels}
 
 -- the window in the limits of a map

@@ -18,7 +18,7 @@ use Rattle.walkgraph.proofs.Lists.{getD-tabulate, placed-in, placed-below}
 use Rattle.walkgraph.proofs.FieldCall.{reach-is}
 use Rattle.window.specs.Fills.{entries, zeros}
 use Rattle.window.proofs.Fills.{placed-front, placed-past}
-use Rattle.start.specs.Hits.{startedLevels}
+use Rattle.startcells.specs.Hits.{startedLevels}
 use Rattle.plainsweeps.proofs.Columns.{slot}
 use Rattle.plainsweeps.proofs.RowLevels.{Holds}
 use Rattle.field.specs.Versions.{never, BeforeSweeps}

@@ -5,7 +5,7 @@ use Prim.Native.Nat.{ℕ, _+_, _*_, _/_, _≤_}
 use lib.ListN.{length}
 use lib.IntN.{ℤ}
 use Rattle.walkgraph.specs.Lists.{placed}
-use Rattle.cells.specs.Rings.{AllRings}
+use Rattle.rings.specs.Rings.{AllRings}
 use Rattle.window.specs.declared.record.Window.{Window}
 use Rattle.window.specs.Fills.{AreBits}
 use Rattle.field.specs.declared.site.Site.{Site}

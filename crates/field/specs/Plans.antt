@@ -13,7 +13,7 @@ use Rattle.walkgraph.specs.Window.{sources}
 use Rattle.walkgraph.specs.Buffers as buffers
 use Rattle.walkgraph.specs.Refusals.{badSpan, FieldInput, Verdict, accepted, refused, fieldVerdict}
 use Rattle.cells.specs.Boxes.{reach, boxOf}
-use Rattle.cells.specs.Rings.{AllRings}
+use Rattle.rings.specs.Rings.{AllRings}
 use Rattle.judge.specs.Grids.{greatest}
 use Rattle.window.specs.declared.record.Window.{Window}
 use Rattle.ways.specs.Buffers.{LaneCount}

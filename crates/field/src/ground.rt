@@ -14,7 +14,8 @@ ghost use Rattle.window.specs.Fills.{entries};
 ghost use Rattle.walkbytes.specs.Filled.{walkFilled};
 ghost use Rattle.flags.specs.Flags.{flagsFilled};
 ghost use Rattle.intervals.specs.Intervals.{rowsFilled};
-ghost use Rattle.start.specs.Hits.{startedLevels, lanesHit};
+ghost use Rattle.startcells.specs.Hits.{startedLevels};
+ghost use Rattle.start.specs.Hits.{lanesHit};
 ghost use Rattle.field.specs.Grounds.{GroundFits, BeginFits, unreachableLevels};
 
 // The walk bytes and the flags of the window.
@@ -40,7 +41,7 @@ pub fn begin(site: Site, resources: &[i32], lanes: &mut [i16], walk: &[u8], rows
     let sources = site.sources;
     let targets = site.targets;
     rows::write_rows(rows, window, sources, targets);
-    start::unreachable(lanes, record::padded(window) * window.lanes);
+    startcells::unreachable(lanes, record::padded(window) * window.lanes);
     start::start_lanes(
         lanes,
         walk,

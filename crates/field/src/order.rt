@@ -1,13 +1,13 @@
 // The field call's refusals 1 to 6, in the table's order: from lengths and shared slices alone.
-use cells::ring;
 use judge::grid;
 use judge::numbers;
 use judge::verdict::Verdict;
+use rings::ring;
 ghost use mathlib.Core.Path.{_≡_};
 ghost use Prim.Native.Nat.{_/_, _≤_};
 ghost use lib.ListN.{length};
 ghost use Rattle.walkgraph.specs.Refusals.{accepted};
-ghost use Rattle.cells.specs.Rings.{corners};
+ghost use Rattle.rings.specs.Rings.{corners};
 ghost use Rattle.judge.specs.Verdicts.{verdictOf};
 ghost use Rattle.field.specs.Verdicts.{mapTests, restTests};
 

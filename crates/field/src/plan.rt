@@ -1,14 +1,14 @@
 // What a call leads to: a refusal, nothing, or a field to make. From lengths and shared slices alone.
 use crate::order;
 use crate::site::Site;
-use cells::ring;
-use cells::ring::CellBox;
+use cells::boxes::CellBox;
 use judge::verdict::Verdict;
+use rings::ring;
 use window::record;
 use window::record::Window;
 ghost use mathlib.Core.Path.{_≡_};
 ghost use Prim.Native.Nat.{_≤_};
-ghost use Rattle.cells.specs.Rings.{corners};
+ghost use Rattle.rings.specs.Rings.{corners};
 ghost use Rattle.field.specs.Plans.{enough, Accepted, SiteOf, sitePlan, inputOf, PlanOf};
 ghost use Rattle.field.specs.Sites.{GoodSite};
 

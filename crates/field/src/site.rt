@@ -1,5 +1,5 @@
 // Where a field is made.
-use cells::ring::CellBox;
+use cells::boxes::CellBox;
 use window::record::Window;
 
 // The map's size, the box around all ring boxes, the target box, and the window.

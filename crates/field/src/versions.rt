@@ -1,6 +1,6 @@
 // Versions of rows, and what each row last pulled: before the first sweep, and after the last.
+use cells::boxes::CellBox;
 use cells::edge;
-use cells::ring::CellBox;
 use window::record::Window;
 ghost use mathlib.Core.Path.{_≡_};
 ghost use Prim.Native.Nat.{ℕ, _+_, _-_, _≤_, min};

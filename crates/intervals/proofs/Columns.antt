@@ -11,7 +11,7 @@ use Rattle.walkgraph.specs.Lists.{firstFrom, pastLast}
 use Rattle.walkgraph.specs.Window.{gap}
 use Rattle.walkgraph.proofs.Tests.{by-cases}
 use Rattle.walkgraph.proofs.Lists.{first-from, IsPast, nobody, somebody, past-last}
-use Rattle.cells.specs.declared.ring.CellBox.{CellBox}
+use Rattle.cells.specs.declared.boxes.CellBox.{CellBox}
 use Rattle.cells.specs.Boxes.{reach, boxOf}
 use Rattle.cells.proofs.Bools.{both}
 use Rattle.cells.proofs.Gaps.{beside, inside-in-row}

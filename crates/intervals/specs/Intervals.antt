@@ -5,7 +5,7 @@ use lib.Dec.{eqb}
 use Rattle.walkgraph.specs.Lists.{firstFrom, pastLast}
 use Rattle.walkgraph.specs.Map.{Box}
 use Rattle.walkgraph.specs.Window.{inside}
-use Rattle.cells.specs.declared.ring.CellBox.{CellBox}
+use Rattle.cells.specs.declared.boxes.CellBox.{CellBox}
 use Rattle.cells.specs.Boxes.{reach, boxOf, InMap, Beside, insideInRow}
 use Rattle.window.specs.declared.record.Window.{Window}
 use Rattle.intervals.specs.declared.rows.RowGaps.{RowGaps}

@@ -1,6 +1,6 @@
 // Row intervals: the first inside column of each row and one past the last, counted with padding.
+use cells::boxes::CellBox;
 use cells::gap;
-use cells::ring::CellBox;
 use window::record::Window;
 ghost use mathlib.Core.Path.{_≡_};
 ghost use mathlib.Core.Bool.{not, _&&_};

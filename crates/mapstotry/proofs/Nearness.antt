@@ -10,9 +10,9 @@ use lib.ListN.{getD, List·getD-eq-default}
 use lib.Dec.{T, eqb, eqb→eq}
 use Rattle.walkgraph.specs.Lists.{tabulate}
 use Rattle.walkgraph.specs.Walk.{distance, Step, straight, diagonal, Walk, here, on}
-use Rattle.walkgraph.proofs.Tests.{and-left, and-right, and-pair, by-cases}
+use Rattle.walkgraph.proofs.Tests.{and-left, and-right, and-pair, by-cases, or-cases, or-left, or-right}
 use Rattle.walkgraph.proofs.Lists.{getD-tabulate, length-tabulate}
-use Rattle.mapstotry.proofs.Tests.{eq→eqb, or-cases, or-left, or-right, some, some-at, at-some}
+use Rattle.mapstotry.proofs.Tests.{eq→eqb, some, some-at, at-some}
 
 -- ---- tables of marks
 

@@ -7,9 +7,9 @@ use Prim.Native.Nat.{ℕ, zero, suc, _<_}
 use native.Mathlib.Omega.{arith}
 use lib.Dec.{T, eqb, eqb→eq}
 use Rattle.walkgraph.specs.Links.{Joined, alone, linked, back, chain, Numbered}
-use Rattle.walkgraph.proofs.Tests.{and-left, and-right}
+use Rattle.walkgraph.proofs.Tests.{and-left, and-right, or-cases}
 use Rattle.walkgraph.proofs.NumberingMade.{Partial, partial-done, number-old, number-new}
-use Rattle.mapstotry.proofs.Tests.{or-cases, not-both, every, every-at, some, some-at}
+use Rattle.mapstotry.proofs.Tests.{not-both, every, every-at, some, some-at}
 
 -- how many numbers the first m resources use, where a new number is always the next
 unfoldable pub used : (ℕ → ℕ) → ℕ → ℕ

@@ -9,9 +9,9 @@ use lib.ListN.{getD}
 use lib.Dec.{T, eqb, eqb→eq, eqb-refl}
 use Rattle.walkgraph.specs.Lists.{grown, grow}
 use Rattle.walkgraph.specs.Sweep.{PaddedWindow, readRow, valueAt, sweep, direction, sweeps}
-use Rattle.walkgraph.proofs.Tests.{and-left, and-right}
+use Rattle.walkgraph.proofs.Tests.{and-left, and-right, or-cases}
 use Rattle.walkgraph.proofs.Lists.{getD-grow}
-use Rattle.mapstotry.proofs.Tests.{or-cases, not-both}
+use Rattle.mapstotry.proofs.Tests.{not-both}
 
 -- the tables after 0 .. n sweeps, each made from the one before it
 unfoldable pub history : PaddedWindow → List (List ℕ) → ℕ → List (List (List ℕ))

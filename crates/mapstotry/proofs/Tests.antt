@@ -9,19 +9,7 @@ use lib.IntN.{ℤ, pos, negsuc}
 use lib.Dec.{T, eqb, eqb→eq, eqb-refl}
 use Rattle.walkgraph.specs.Map.{Box}
 use Rattle.walkgraph.specs.Painting.{Rectangle}
-use Rattle.walkgraph.proofs.Tests.{and-left, and-right, by-cases}
-
-pub or-cases : (a b : Bool) → T (a || b) → T a ⊎ T b
-or-cases true b t = inl tt
-or-cases false b t = inr t
-
-pub or-left : (a b : Bool) → T a → T (a || b)
-or-left true b t = tt
-or-left false b t = absurd t
-
-pub or-right : (a b : Bool) → T b → T (a || b)
-or-right true b t = tt
-or-right false b t = t
+use Rattle.walkgraph.proofs.Tests.{and-left, and-right, or-cases, or-left, or-right, by-cases}
 
 pub not-both : (b : Bool) → T (not b) → ¬ (T b)
 not-both true t s = t

@@ -7,13 +7,14 @@ use native.Mathlib.Omega.{arith}
 use lib.ListN.{getD}
 use Rattle.walkgraph.specs.Map.{Box}
 use Rattle.walkgraph.specs.Painting.{Rectangle}
-use Rattle.cells.specs.declared.ring.CellBox.{CellBox}
+use Rattle.cells.specs.declared.boxes.CellBox.{CellBox}
 use Rattle.cells.specs.Boxes.{boxOf, InMap}
-use Rattle.cells.specs.Rings.{Accepted}
-use Rattle.cells.proofs.Sides.{on-map}
-use Rattle.cells.proofs.Sources.{ring-in-map}
+use Rattle.rings.specs.Rings.{Accepted}
+use Rattle.rings.proofs.Sides.{on-map}
+use Rattle.rings.proofs.Sources.{ring-in-map}
 use Rattle.window.specs.declared.record.Window.{Window}
-use Rattle.start.specs.Hits.{firstColumn, pastColumn, Cells, Room}
+use Rattle.start.specs.Hits.{firstColumn, pastColumn, Room}
+use Rattle.startcells.specs.Hits.{Cells}
 
 -- column x of row `row` of a padded window is one of its cells
 cell-in : (row height width x : ℕ) → row < height → x ≤ width + 1 → suc ((row + 1) * (width + 2) + x) ≤ (height + 2) * (width + 2)

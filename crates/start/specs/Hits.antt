@@ -1,33 +1,14 @@
--- Where lanes start, by the index of their level in the buffer.
-use mathlib.Core.Path.{_≡_}
-use mathlib.Core.Bool.{Bool, true, false, not, _&&_, _||_}
+-- Where lanes start, by the index of their level in the buffer: in a row, in a ring, and of all resources.
+use mathlib.Core.Bool.{Bool}
 use mathlib.Core.List.{List}
-use Prim.Native.Nat.{ℕ, zero, suc, _+_, _*_, _-_, _/_, _≤_, _<_, min, max}
+use Prim.Native.Nat.{ℕ, _+_, _*_, _-_, _≤_, _<_, min, max}
 use lib.ListN.{getD, length}
 use lib.IntN.{ℤ}
-use lib.Dec.{eqb}
 use Rattle.walkgraph.specs.Painting.{rectangle}
 use Rattle.walkgraph.specs.Ring.{body, ringBox}
-use Rattle.walkgraph.specs.Map.{Box, inBox}
-use Rattle.lane.specs.Levels.{startedLevel}
+use Rattle.walkgraph.specs.Map.{Box}
 use Rattle.window.specs.declared.record.Window.{Window}
-
--- one of the numbers below n passes
-unfoldable pub someBelow : ℕ → (ℕ → Bool) → Bool
-someBelow zero test = false
-someBelow (suc n) test = someBelow n test || test n
-
--- the levels of a buffer after those that are hit became that of half cost 0
-unfoldable pub startedLevels : (ℕ → ℕ) → (ℕ → Bool) → ℕ → ℕ
-startedLevels levels hit j = startedLevel (levels j) (hit j)
-
--- a cell of a row starts: it is walkable, and its column x is not of the body in row y; `place` is the place of its walk byte
-unfoldable pub startsHere : List ℕ → Box → ℕ → ℕ → ℕ → Bool
-startsHere walk body x y place = eqb (getD walk place 0) 1 && not (inBox body x y)
-
--- lane `lane` of one of n cells from `place` on, whose columns are x and the following
-unfoldable pub cellsHit : ℕ → List ℕ → Box → ℕ → ℕ → ℕ → ℕ → ℕ → ℕ → Bool
-cellsHit lanes walk body lane x y place n j = someBelow n (λ k. eqb j ((place + k) * lanes + lane) && startsHere walk body (x + k) y (place + k))
+use Rattle.startcells.specs.Hits.{someBelow, cellsHit}
 
 -- the columns of the ring box that are inside in the window's row, one more than the map's column: the first, and one past the last
 unfoldable pub firstColumn : Window → List ℕ → Box → ℕ → ℕ
@@ -53,12 +34,6 @@ ringHit w walk rows ring body lane j =
 unfoldable pub lanesHit : Window → List ℕ → List ℕ → ℕ → ℕ → List ℤ → ℕ → ℕ → Bool
 lanesHit w walk rows width height resources n j =
     someBelow n (λ k. ringHit w walk rows (ringBox width height (rectangle resources k)) (body (rectangle resources k)) k j)
-
--- n cells from `place` on have room among the lanes and the walk bytes
-pub record Cells (lanes walk each lane x place n : ℕ) : Type 0 where
-  pub lanes-in : (k : ℕ) → k < n → (place + k) * each + lane < lanes
-  pub walk-in : (k : ℕ) → k < n → place + k < walk
-  pub column : (k : ℕ) → k < n → x + k ≤ 1024
 
 -- a window in the limits of a map has room among the lanes and the walk bytes, and its intervals end in its rows
 pub record Room (w : Window) (lanes walk : ℕ) (rows : List ℕ) : Type 0 where

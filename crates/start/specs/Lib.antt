@@ -1,2 +1,2 @@
--- What the start crate's contracts speak of.
+-- What the contracts of this crate speak of: where lanes start.
 pub mod Hits

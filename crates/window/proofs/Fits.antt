@@ -5,7 +5,7 @@ use native.Mathlib.Omega.{arith}
 use Rattle.walkgraph.specs.Window.{window}
 use Rattle.walkgraph.specs.Buffers.{Call, windowOf}
 use Rattle.walkgraph.specs.Reading.{recordOf}
-use Rattle.cells.specs.declared.ring.CellBox.{CellBox}
+use Rattle.cells.specs.declared.boxes.CellBox.{CellBox}
 use Rattle.cells.specs.Boxes.{reach, boxOf}
 use Rattle.window.specs.declared.record.Window.{Window}
 use Rattle.window.specs.Windows.{asRecord, windowOver, OnMap}

@@ -1,6 +1,6 @@
 // The window record.
+use cells::boxes::CellBox;
 use cells::edge;
-use cells::ring::CellBox;
 ghost use mathlib.Core.Path.{_≡_};
 ghost use Prim.Native.Nat.{_+_, _*_, _≤_};
 ghost use Rattle.walkgraph.specs.Window.{window};

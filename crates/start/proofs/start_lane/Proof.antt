@@ -1,8 +1,8 @@
 use mathlib.Core.Path.{_≡_, sym, _∙_}
 use borrow.Author.Needs.{needs}
-use Rattle.cells.specs.Rings.{RingOf}
+use Rattle.rings.specs.Rings.{RingOf}
 use Rattle.cells.proofs.Bools.{clash}
-use Rattle.cells.proofs.Search.{all-good}
+use Rattle.rings.proofs.Search.{all-good}
 use Rattle.start.proofs.Rooms.{ring-limits}
 use Rattle.start.proofs.start_lane.Statement.{statement}
 use Rattle.start.proofs.start_lane.Tie as tie

@@ -6,9 +6,10 @@ use denote.Ref.{now}
 use borrow.Author.Needs.{needs}
 use Rattle.lane.specs.Levels.{levelAt}
 use Rattle.cells.specs.Boxes.{boxOf}
-use Rattle.start.specs.Hits.{someBelow, startedLevels, rowHit, ringHit}
-use Rattle.start.proofs.Some.{some-none, started-none}
-use Rattle.start.proofs.Turns.{turn-more}
+use Rattle.startcells.specs.Hits.{someBelow, startedLevels}
+use Rattle.start.specs.Hits.{rowHit, ringHit}
+use Rattle.startcells.proofs.Some.{some-none, started-none}
+use Rattle.startcells.proofs.Turns.{turn-more}
 use Rattle.start.proofs.start_ring.Statement.{statement}
 use Rattle.start.proofs.start_ring.Tie as tie
 

@@ -4,7 +4,7 @@ use borrow.Author.Needs.{needs}
 use mir.Syntax.{w32}
 use mir.ValLaws.{toZ-ofZ}
 use Rattle.walkgraph.specs.Refusals.{FieldInput, accepted}
-use Rattle.cells.specs.Rings.{corners}
+use Rattle.rings.specs.Rings.{corners}
 use Rattle.judge.specs.Verdicts.{verdictOf}
 use Rattle.field.specs.Plans.{inputOf, SiteOf}
 use Rattle.field.proofs.Verdicts.{mapPart, restPart, map-found, rest-may}

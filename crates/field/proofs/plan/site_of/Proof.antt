@@ -5,7 +5,7 @@ use native.Mathlib.Omega.{arith}
 use borrow.Author.Needs.{needs}
 use Rattle.walkgraph.specs.Map.{Box}
 use Rattle.cells.proofs.Casts.{cast, may-cast}
-use Rattle.cells.proofs.Sources.{same-box, sources-in-map}
+use Rattle.rings.proofs.Sources.{same-box, sources-in-map}
 use Rattle.judge.proofs.Accepted.{Span, span}
 use Rattle.window.specs.declared.record.Window.{Window}
 use Rattle.window.specs.Windows.{windowOver}

@@ -1,0 +1,2 @@
+-- The code's rings as those of the walk graph.
+pub mod Rings

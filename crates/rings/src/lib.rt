@@ -1,0 +1,2 @@
+// The rings of resources.
+pub mod ring;

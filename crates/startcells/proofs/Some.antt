@@ -1,0 +1,101 @@
+-- Searches below a number, and levels that were hit once or more.
+use mathlib.Core.Path.{_≡_, refl, sym, _∙_, ap}
+use mathlib.Core.Logic.{_⊎_, inl, inr, ⊎-elim}
+use mathlib.Core.Bool.{Bool, true, false, cond, _&&_, _||_}
+use mathlib.Core.List.{List}
+use Prim.Native.Nat.{ℕ, zero, suc, _+_, _*_, _≤_, _<_}
+use native.Mathlib.Numerals.{add-one}
+use native.Mathlib.Nat.{suc-mul, mul-le-mul-right}
+use native.Mathlib.Decide.{ℕ-discrete}
+use native.Mathlib.Omega.{arith}
+use lib.IntN.{ℤ, pos}
+use lib.ListN.{getD, length, set}
+use lib.Seq.{getD-set-same, getD-set-other}
+use lib.Dec.{T, eqb}
+use borrow.Author.Tests.{eq-eqb, ne-eqb}
+use Rattle.walkgraph.specs.Lists.{placed}
+use Rattle.walkgraph.proofs.Lists.{placed-in, placed-above, by-place}
+use Rattle.walkgraph.proofs.Tests.{by-cases, or-cases, or-left, or-right}
+use Rattle.lane.specs.Levels.{level, levelAt, startedLevel}
+use Rattle.startcells.specs.Hits.{someBelow, startedLevels}
+
+pub some-at : (n : ℕ) (test : ℕ → Bool) → T (someBelow n test) → (k : ℕ) × (k < n) × T (test k)
+unfolding someBelow
+some-at zero test t = absurd t
+some-at (suc n) test t =
+    let ih = some-at n test in
+    ⊎-elim (λ a. let r = ih a in (r .0, omega (arith, r .1), r .2)) (λ b. (n, omega arith, b)) (or-cases (someBelow n test) (test n) t)
+
+pub at-some : (n : ℕ) (test : ℕ → Bool) (k : ℕ) → k < n → T (test k) → T (someBelow n test)
+unfolding someBelow
+at-some zero test k h t = absurd (omega arith)
+at-some (suc n) test k h t =
+    let ih : k < n → T (someBelow n test) = λ q. at-some n test k q t in
+    by-cases (ℕ-discrete k n) (λ e. or-right (someBelow n test) (test n) (rw e at t)) (λ e. or-left (someBelow n test) (test n) (ih (omega arith)))
+
+-- for loops: none at first, then one more
+pub some-none : (test : ℕ → Bool) → someBelow 0 test ≡ false
+unfolding someBelow
+some-none test = refl
+
+pub some-more : (n : ℕ) (test : ℕ → Bool) → someBelow (n + 1) test ≡ (someBelow n test || test n)
+unfolding someBelow
+some-more n test = rw add-one
+
+-- a level that was hit once or more is that of half cost 0
+pub started-twice : (v : ℕ) (a b : Bool) → startedLevel (startedLevel v a) b ≡ startedLevel v (a || b)
+started-twice v true true = refl
+started-twice v true false = refl
+started-twice v false b = refl
+
+pub started-none : (F : ℕ → ℕ) (hit : ℕ → Bool) → ((j : ℕ) → hit j ≡ false) → F ≡ startedLevels F hit
+unfolding startedLevels
+started-none F hit h = λ i j. same j i
+  where
+    same : (j : ℕ) → F j ≡ startedLevel (F j) (hit j)
+    same j = rw (h j)
+
+pub started-more : (F : ℕ → ℕ) (a b c : ℕ → Bool) → ((j : ℕ) → c j ≡ (a j || b j)) → startedLevels (startedLevels F a) b ≡ startedLevels F c
+unfolding startedLevels
+started-more F a b c h = λ i j. same j i
+  where
+    same : (j : ℕ) → startedLevel (startedLevel (F j) (a j)) (b j) ≡ startedLevel (F j) (c j)
+    same j = rw (h j) (started-twice (F j) (a j) (b j))
+
+-- ---- tests
+pub and-no : (b : Bool) → false ≡ (b && false)
+and-no true = refl
+and-no false = refl
+
+pub and-yes : (b : Bool) → b ≡ (b && true)
+and-yes true = refl
+and-yes false = refl
+
+-- ---- one level more
+pub started-set : (d : List ℤ) (i : ℕ) (v : ℤ) (hit : Bool) → i < length d → level v ≡ startedLevel (levelAt d i) hit → levelAt (set d i v) ≡ startedLevels (levelAt d) (λ j. eqb j i && hit)
+unfolding startedLevels
+started-set d i v hit b e = λ k j. same j k
+  where
+    same : (j : ℕ) → levelAt (set d i v) j ≡ startedLevel (levelAt d j) (eqb j i && hit)
+    same j =
+        by-cases (ℕ-discrete j i)
+        (λ q. rw (q, eq-eqb i i refl) (ap level (getD-set-same d i v (pos 0) b) ∙ e))
+        (λ q. rw (ne-eqb j i q) (ap level (getD-set-other d i j v (pos 0) q)))
+
+pub filled-set : (d : List ℤ) (F : ℕ → ℕ) (n : ℕ) (v : ℤ) (top : ℕ) → n < length d → level v ≡ top → levelAt d ≡ placed F 0 n (λ k. top) → levelAt (set d n v) ≡ placed F 0 (n + 1) (λ k. top)
+filled-set d F n v top b e h = λ k j. same j k
+  where
+    inside : (n j : ℕ) → j < n → placed F 0 n (λ k. top) j ≡ top
+    inside n j q = let z : 0 + j ≡ j = omega arith in rw z at (placed-in F 0 n (λ k. top) j q)
+
+    same : (j : ℕ) → levelAt (set d n v) j ≡ placed F 0 (n + 1) (λ k. top) j
+    same j =
+        by-place (λ j. levelAt (set d n v) j ≡ placed F 0 (n + 1) (λ k. top) j) n 1 j
+        (λ q. ap level (getD-set-other d n j v (pos 0) (λ r. omega arith)) ∙ ap (λ (f : ℕ → ℕ). f j) h ∙ inside n j q ∙ sym (inside (n + 1) j (omega arith)))
+        (λ i q.
+        let z : n + i ≡ n = omega arith in
+        rw z (ap level (getD-set-same d n v (pos 0) b) ∙ e ∙ sym (inside (n + 1) n (omega arith))))
+        (λ q. ap level (getD-set-other d n j v (pos 0) (λ r. omega arith)) ∙ ap (λ (f : ℕ → ℕ). f j) h ∙ placed-above F 0 n (λ k. top) j (omega arith) ∙ sym (placed-above F 0 (n + 1) (λ k. top) j (omega arith)))
+
+pub filled-none : (F : ℕ → ℕ) (top : ℕ) → F ≡ placed F 0 0 (λ k. top)
+filled-none F top = λ i j. sym (placed-above F 0 0 (λ k. top) j (omega arith)) i
