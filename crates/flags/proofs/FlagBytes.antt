@@ -1,16 +1,17 @@
 -- Flags of walk bytes.
-use mathlib.Core.Path.{_≡_, _∙_, ap}
+use mathlib.Core.Path.{_≡_, sym, _∙_, ap}
 use mathlib.Core.List.{List}
 use Prim.Native.Nat.{ℕ, _+_, _*_, _-_, _≤_, _<_}
 use native.Mathlib.Nat.{mul-le-mul}
 use native.Mathlib.Decide.{ℕ-discrete}
 use native.Mathlib.Omega.{arith}
-use lib.ListN.{take, drop}
+use lib.ListN.{length, set, take, drop}
+use Rattle.walkgraph.specs.Lists.{placed}
 use Rattle.walkgraph.proofs.Tests.{by-cases}
 use Rattle.window.specs.Fills.{entries}
 use Rattle.window.specs.declared.record.Window.{Window}
 use Rattle.flags.specs.Flags.{flagsOf, flagAt, FlagRowAt, FlagRows}
-use Rattle.window.proofs.Fills.{part-entries, row-room}
+use Rattle.window.proofs.Fills.{placed-store, placed-front, part-entries, row-room}
 
 -- two bytes that are 0 or 1, and the flag that both of them set
 pub bit-product : (a b : ℕ) → a ≤ 1 → b ≤ 1 → a * b ≤ 1
@@ -48,6 +49,22 @@ flag-part walk stride row x h k =
   where
     same : (k i : ℕ) → k < 3 * stride → row - stride + k ≡ i → entries (take (3 * stride) (drop (row - stride) walk)) k ≡ entries walk i
     same k i l e = part-entries (row - stride) (3 * stride) walk k l ∙ ap (entries walk) e
+
+-- the next byte of a row, stored
+pub flag-stored : (before walk : ℕ → ℕ) (stride x v : ℕ) (buffer : List ℕ) → x < length buffer →
+    v ≡ flagsOf (walk (stride + x + 1)) (walk (stride + x)) (walk (stride + x + 2)) (walk (x + 1)) (walk (2 * stride + x + 1)) →
+    entries buffer ≡ placed before 0 x (λ x. flagAt walk stride (stride + 1 + x)) →
+    entries (set buffer x v) ≡ placed before 0 (x + 1) (λ x. flagAt walk stride (stride + 1 + x))
+flag-stored before walk stride x v buffer b e h =
+    let f = flag-at walk stride (stride + 1 + x) (stride + x + 1) (stride + x) (stride + x + 2) (x + 1) (2 * stride + x + 1) (omega arith) (omega arith) (omega arith) (omega arith) (omega arith) in
+    placed-store before 0 _ x x v buffer (omega arith) b (e ∙ sym f) h
+
+-- the flags of a row, made from a part of the walk bytes, are those of the whole
+pub part-flags : (walk part : List ℕ) (before : ℕ → ℕ) (stride row count size : ℕ) → size ≡ 3 * stride → stride ≤ row → count + 2 ≤ stride →
+    entries part ≡ placed before 0 count (λ x. flagAt (entries (take size (drop (row - stride) walk))) stride (stride + 1 + x)) →
+    (k : ℕ) → k < count → entries part k ≡ flagAt (entries walk) stride (row + 1 + k)
+part-flags walk part before stride row count size q h l p k b =
+    ap (λ (f : ℕ → ℕ). f k) p ∙ placed-front before count _ k b ∙ rw q (flag-part walk stride row k h (omega arith))
 
 -- row y of a window
 pub row-fits : {w : Window} {walk : List ℕ} {flags now stride row : ℕ} → FlagRows w walk flags → (y : ℕ) → stride ≡ w .width + 2 → row ≡ stride + y * stride → y < w .height → now ≡ flags →

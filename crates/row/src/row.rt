@@ -57,7 +57,8 @@ pub fn relax(
     fresh: bool,
 ) -> bool
     requires { ⌜ Gates (now gates) × LaneCount «lane_count» × RowFits «lane_count» first feeding count (length (now lanes)) (length (now flags)) ⌝ }
-    ensures { λ r. ⌜ RowDone «lane_count» (flagAt (now (flags .entry))) down (first * «lane_count») (feeding * «lane_count») first count (levelAt (now (lanes .entry))) (levelAt (now (lanes .exit))) fresh r ⌝ }
+    ensures { λ r. ⌜ RowDone «lane_count» (flagAt (now (flags .entry))) down (first * «lane_count») (feeding * «lane_count») first count
+        (levelAt (now (lanes .entry))) (levelAt (now (lanes .exit))) fresh r ⌝ }
 {
     if out(lanes, flags, gates, lane_count, first, feeding, count, down) {
         back(lanes, flags, gates, lane_count, first + count, count);

@@ -1,12 +1,14 @@
 -- Where lanes start, by the index of their level in the buffer: in a row, in a ring, and of all resources.
 use mathlib.Core.Bool.{Bool}
 use mathlib.Core.List.{List}
-use Prim.Native.Nat.{ℕ, _+_, _*_, _-_, _≤_, _<_, min, max}
+use Prim.Native.Nat.{ℕ, _+_, _*_, _-_, _/_, _≤_, _<_, min, max}
 use lib.ListN.{getD, length}
 use lib.IntN.{ℤ}
 use Rattle.walkgraph.specs.Painting.{rectangle}
 use Rattle.walkgraph.specs.Ring.{body, ringBox}
 use Rattle.walkgraph.specs.Map.{Box}
+use Rattle.cells.specs.Boxes.{InMap}
+use Rattle.rings.specs.Rings.{AllRings}
 use Rattle.window.specs.declared.record.Window.{Window}
 use Rattle.startcells.specs.Hits.{someBelow, cellsHit}
 
@@ -46,3 +48,19 @@ pub record Room (w : Window) (lanes walk : ℕ) (rows : List ℕ) : Type 0 where
   pub rows-in : 2 * w .height ≤ length rows
   pub first : (row : ℕ) → row < w .height → getD rows (2 * row) 0 ≤ w .width + 1
   pub past : (row : ℕ) → row < w .height → getD rows (2 * row + 1) 0 ≤ w .width + 1
+
+-- the same, and a row of a ring box of the map that is in the window
+abbrev pub RowRoom : (w : Window) (lanes walk : ℕ) (rows : List ℕ) (ring : Box) (lane y : ℕ) → Type 0
+RowRoom w lanes walk rows ring lane y = Room w lanes walk rows × InMap 1024 1024 ring × (lane < w .lanes) × (w .top ≤ y) × (y < w .top + w .height)
+
+-- a ring box of the map
+abbrev pub RingRoom : (w : Window) (lanes walk : ℕ) (rows : List ℕ) (ring : Box) (lane : ℕ) → Type 0
+RingRoom w lanes walk rows ring lane = Room w lanes walk rows × InMap 1024 1024 ring × (lane < w .lanes)
+
+-- one of the resources, all of which have rings, with its lane
+abbrev pub LaneRoom : (w : Window) (lanes walk : ℕ) (rows : List ℕ) (width height : ℕ) (resources : List ℤ) (lane : ℕ) → Type 0
+LaneRoom w lanes walk rows width height resources lane = Room w lanes walk rows × AllRings width height resources × (lane < length resources / 4) × (lane < w .lanes)
+
+-- and all of them
+abbrev pub LanesRoom : (w : Window) (lanes walk : ℕ) (rows : List ℕ) (width height : ℕ) (resources : List ℤ) → Type 0
+LanesRoom w lanes walk rows width height resources = Room w lanes walk rows × AllRings width height resources × (length resources / 4 ≤ w .lanes)

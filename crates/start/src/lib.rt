@@ -6,15 +6,14 @@ use rings::ring::Ring;
 use window::record;
 use window::record::Window;
 ghost use mathlib.Core.Path.{_≡_};
-ghost use Prim.Native.Nat.{_+_, _/_, _≤_, _<_};
+ghost use Prim.Native.Nat.{_/_};
 ghost use lib.ListN.{length};
 ghost use Rattle.walkgraph.specs.Painting.{rectangle};
 ghost use Rattle.walkgraph.specs.Ring.{body, ringBox};
 ghost use Rattle.lane.specs.Levels.{levelAt};
-ghost use Rattle.cells.specs.Boxes.{boxOf, InMap};
-ghost use Rattle.rings.specs.Rings.{AllRings};
+ghost use Rattle.cells.specs.Boxes.{boxOf};
 ghost use Rattle.startcells.specs.Hits.{startedLevels};
-ghost use Rattle.start.specs.Hits.{rowHit, ringHit, lanesHit, Room};
+ghost use Rattle.start.specs.Hits.{rowHit, ringHit, lanesHit, RowRoom, RingRoom, LaneRoom, LanesRoom};
 
 // Starts one lane in row y of its ring box, of the window: in the columns that are inside.
 pub fn start_row(
@@ -27,8 +26,9 @@ pub fn start_row(
     lane: usize,
     y: usize,
 )
-    requires { ⌜ Room window (length (now lanes)) (length (now walk)) (now rows) × InMap 1024 1024 (boxOf ring) × (lane < window .lanes) × (window .top ≤ y) × (y < window .top + window .height) ⌝ }
-    ensures { λ _. ⌜ levelAt (now (lanes .exit)) ≡ startedLevels (levelAt (now (lanes .entry))) (rowHit window (now (walk .entry)) (now (rows .entry)) (boxOf ring) (boxOf body) lane y) ⌝ }
+    requires { ⌜ RowRoom window (length (now lanes)) (length (now walk)) (now rows) (boxOf ring) lane y ⌝ }
+    ensures { λ _. ⌜ levelAt (now (lanes .exit)) ≡ startedLevels (levelAt (now (lanes .entry)))
+        (rowHit window (now (walk .entry)) (now (rows .entry)) (boxOf ring) (boxOf body) lane y) ⌝ }
 {
     let row = y - window.top;
     let first = edge::most(ring.left + 1, rows[2 * row] as usize + window.left);
@@ -56,8 +56,9 @@ pub fn start_ring(
     body: CellBox,
     lane: usize,
 )
-    requires { ⌜ Room window (length (now lanes)) (length (now walk)) (now rows) × InMap 1024 1024 (boxOf ring) × (lane < window .lanes) ⌝ }
-    ensures { λ _. ⌜ levelAt (now (lanes .exit)) ≡ startedLevels (levelAt (now (lanes .entry))) (ringHit window (now (walk .entry)) (now (rows .entry)) (boxOf ring) (boxOf body) lane) ⌝ }
+    requires { ⌜ RingRoom window (length (now lanes)) (length (now walk)) (now rows) (boxOf ring) lane ⌝ }
+    ensures { λ _. ⌜ levelAt (now (lanes .exit)) ≡ startedLevels (levelAt (now (lanes .entry)))
+        (ringHit window (now (walk .entry)) (now (rows .entry)) (boxOf ring) (boxOf body) lane) ⌝ }
 {
     let first = edge::most(ring.top, window.top);
     let past = edge::least(ring.bottom + 1, window.top + window.height);
@@ -77,8 +78,10 @@ pub fn start_lane(
     height: usize,
     lane: usize,
 )
-    requires { ⌜ Room window (length (now lanes)) (length (now walk)) (now rows) × AllRings width height (now resources) × (lane < length (now resources) / 4) × (lane < window .lanes) ⌝ }
-    ensures { λ _. ⌜ levelAt (now (lanes .exit)) ≡ startedLevels (levelAt (now (lanes .entry))) (ringHit window (now (walk .entry)) (now (rows .entry)) (ringBox width height (rectangle (now (resources .entry)) lane)) (body (rectangle (now (resources .entry)) lane)) lane) ⌝ }
+    requires { ⌜ LaneRoom window (length (now lanes)) (length (now walk)) (now rows) width height (now resources) lane ⌝ }
+    ensures { λ _. ⌜ levelAt (now (lanes .exit)) ≡ startedLevels (levelAt (now (lanes .entry)))
+        (ringHit window (now (walk .entry)) (now (rows .entry))
+        (ringBox width height (rectangle (now (resources .entry)) lane)) (body (rectangle (now (resources .entry)) lane)) lane) ⌝ }
 {
     match ring::ring_at(resources, lane, width, height) {
         Ring::Present { ring, body } => start_ring(lanes, walk, rows, window, ring, body, lane),
@@ -96,8 +99,9 @@ pub fn start_lanes(
     width: usize,
     height: usize,
 )
-    requires { ⌜ Room window (length (now lanes)) (length (now walk)) (now rows) × AllRings width height (now resources) × (length (now resources) / 4 ≤ window .lanes) ⌝ }
-    ensures { λ _. ⌜ levelAt (now (lanes .exit)) ≡ startedLevels (levelAt (now (lanes .entry))) (lanesHit window (now (walk .entry)) (now (rows .entry)) width height (now (resources .entry)) (length (now (resources .entry)) / 4)) ⌝ }
+    requires { ⌜ LanesRoom window (length (now lanes)) (length (now walk)) (now rows) width height (now resources) ⌝ }
+    ensures { λ _. ⌜ levelAt (now (lanes .exit)) ≡ startedLevels (levelAt (now (lanes .entry)))
+        (lanesHit window (now (walk .entry)) (now (rows .entry)) width height (now (resources .entry)) (length (now (resources .entry)) / 4)) ⌝ }
 {
     for lane in 0..resources.len() / 4 {
         start_lane(lanes, walk, rows, resources, window, width, height, lane);

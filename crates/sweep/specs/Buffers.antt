@@ -8,6 +8,7 @@ use lib.ListN.{getD, length}
 use Rattle.lane.specs.Levels.{levelAt}
 use Rattle.ways.specs.Buffers.{LaneCount}
 use Rattle.row.specs.Visits.{Ground}
+use Rattle.row.specs.Buffers.{groundOf}
 use Rattle.sweep.specs.Sweeps.{Run, Sweeps}
 
 abbrev pub runOf : (lanes : List ℤ) (versions pulledDown pulledUp : List ℕ) → Run
@@ -23,9 +24,23 @@ pub record Window (lanes stride height : ℕ) (rows : List ℕ) (cells bytes ver
   pub flags : (height + 2) * stride ≤ bytes
   pub each : height + 2 ≤ versions
 
+-- a window, and room for what each of its rows last pulled: in one direction, and in both
+abbrev pub SweepFits : (lanes stride height : ℕ) (rows : List ℕ) (cells bytes versions pulled : ℕ) → Type 0
+SweepFits lanes stride height rows cells bytes versions pulled = Window lanes stride height rows cells bytes versions × (height + 2 ≤ pulled)
+
+abbrev pub RunFits : (lanes stride height : ℕ) (rows : List ℕ) (cells bytes versions pulledDown pulledUp : ℕ) → Type 0
+RunFits lanes stride height rows cells bytes versions pulledDown pulledUp =
+    Window lanes stride height rows cells bytes versions × (height + 2 ≤ pulledDown) × (height + 2 ≤ pulledUp)
+
 -- a run stops: if it comes to sweep number `most`, that one changes nothing
 pub record Stops (g : Ground) (height : ℕ) (r : Run) : Type 0 where
   pub most : ℕ
   pub late : 2 ≤ most
   pub few : most < 2 ^ 64
   pub quiet : {q : Run} {answer : Bool} → Sweeps g height r most q answer → answer ≡ false
+
+-- what a run asks of the lent buffers: room, and that it stops
+abbrev pub CanRun : (lanes stride height : ℕ) (levels : List ℤ) (flags rows versions pulledDown pulledUp : List ℕ) → Type 0
+CanRun lanes stride height levels flags rows versions pulledDown pulledUp =
+    Window lanes stride height rows (length levels) (length flags) (length versions) × (height + 2 ≤ length pulledDown) × (height + 2 ≤ length pulledUp)
+    × Stops (groundOf lanes stride flags rows) height (runOf levels versions pulledDown pulledUp)

@@ -3,12 +3,11 @@ use row::visit;
 use ways::gate;
 ghost use mathlib.Core.Path.{_≡_};
 ghost use mathlib.Core.Bool.{false, cond};
-ghost use Prim.Native.Nat.{_+_, _≤_};
 ghost use lib.ListN.{length};
 ghost use lib.Dec.{leb};
 ghost use Rattle.sweep.specs.Sweeps.{Turns, OneSweep, Ended};
 ghost use Rattle.row.specs.Buffers.{groundOf, stateOf};
-ghost use Rattle.sweep.specs.Buffers.{runOf, Window, Stops};
+ghost use Rattle.sweep.specs.Buffers.{runOf, SweepFits, RunFits, CanRun};
 
 // One sweep over the rows of a window of height rows: whether a lane changed.
 pub fn sweep(
@@ -23,8 +22,10 @@ pub fn sweep(
     down: bool,
     fresh: bool,
 ) -> bool
-    requires { ⌜ Window «lane_count» stride height (now rows) (length (now lanes)) (length (now flags)) (length (now versions)) × (height + 2 ≤ length (now pulled)) ⌝ }
-    ensures { λ r. ⌜ Turns (groundOf «lane_count» stride (now (flags .entry)) (now (rows .entry))) down fresh height (stateOf (now (lanes .entry)) (now (versions .entry)) (now (pulled .entry)) false) height (stateOf (now (lanes .exit)) (now (versions .exit)) (now (pulled .exit)) r) ⌝ }
+    requires { ⌜ SweepFits «lane_count» stride height (now rows) (length (now lanes)) (length (now flags)) (length (now versions)) (length (now pulled)) ⌝ }
+    ensures { λ r. ⌜ Turns (groundOf «lane_count» stride (now (flags .entry)) (now (rows .entry))) down fresh height
+        (stateOf (now (lanes .entry)) (now (versions .entry)) (now (pulled .entry)) false) height
+        (stateOf (now (lanes .exit)) (now (versions .exit)) (now (pulled .exit)) r) ⌝ }
 {
     let gates = gate::gates();
     let mut changed = false;
@@ -61,8 +62,11 @@ pub fn alternate(
     height: usize,
     number: usize,
 ) -> bool
-    requires { ⌜ Window «lane_count» stride height (now rows) (length (now lanes)) (length (now flags)) (length (now versions)) × (height + 2 ≤ length (now «pulled_down»)) × (height + 2 ≤ length (now «pulled_up»)) ⌝ }
-    ensures { λ r. ⌜ OneSweep (groundOf «lane_count» stride (now (flags .entry)) (now (rows .entry))) height number (runOf (now (lanes .entry)) (now (versions .entry)) (now («pulled_down» .entry)) (now («pulled_up» .entry))) (runOf (now (lanes .exit)) (now (versions .exit)) (now («pulled_down» .exit)) (now («pulled_up» .exit))) r ⌝ }
+    requires { ⌜ RunFits «lane_count» stride height (now rows) (length (now lanes)) (length (now flags)) (length (now versions))
+        (length (now «pulled_down»)) (length (now «pulled_up»)) ⌝ }
+    ensures { λ r. ⌜ OneSweep (groundOf «lane_count» stride (now (flags .entry)) (now (rows .entry))) height number
+        (runOf (now (lanes .entry)) (now (versions .entry)) (now («pulled_down» .entry)) (now («pulled_up» .entry)))
+        (runOf (now (lanes .exit)) (now (versions .exit)) (now («pulled_down» .exit)) (now («pulled_up» .exit))) r ⌝ }
 {
     if number % 2 == 0 {
         return sweep(
@@ -114,8 +118,10 @@ pub fn run(
     stride: usize,
     height: usize,
 ) -> usize
-    requires { ⌜ Window «lane_count» stride height (now rows) (length (now lanes)) (length (now flags)) (length (now versions)) × (height + 2 ≤ length (now «pulled_down»)) × (height + 2 ≤ length (now «pulled_up»)) × Stops (groundOf «lane_count» stride (now flags) (now rows)) height (runOf (now lanes) (now versions) (now «pulled_down») (now «pulled_up»)) ⌝ }
-    ensures { λ r. ⌜ Ended (groundOf «lane_count» stride (now (flags .entry)) (now (rows .entry))) height (runOf (now (lanes .entry)) (now (versions .entry)) (now («pulled_down» .entry)) (now («pulled_up» .entry))) (runOf (now (lanes .exit)) (now (versions .exit)) (now («pulled_down» .exit)) (now («pulled_up» .exit))) r ⌝ }
+    requires { ⌜ CanRun «lane_count» stride height (now lanes) (now flags) (now rows) (now versions) (now «pulled_down») (now «pulled_up») ⌝ }
+    ensures { λ r. ⌜ Ended (groundOf «lane_count» stride (now (flags .entry)) (now (rows .entry))) height
+        (runOf (now (lanes .entry)) (now (versions .entry)) (now («pulled_down» .entry)) (now («pulled_up» .entry)))
+        (runOf (now (lanes .exit)) (now (versions .exit)) (now («pulled_down» .exit)) (now («pulled_up» .exit))) r ⌝ }
 {
     let mut count: usize = 0;
     loop {

@@ -1,4 +1,4 @@
--- `window::flags::corner`: two bytes that are 0 or 1 add up to 2 exactly where both are 1.
+-- `flags::corner`: two bytes that are 0 or 1 add up to 2 exactly where both are 1.
 use borrow.Author.Needs.{needs}
 use Rattle.flags.proofs.FlagBytes.{both-bits, not-both}
 use Rattle.flags.proofs.corner.Statement.{statement}

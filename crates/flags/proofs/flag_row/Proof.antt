@@ -1,5 +1,5 @@
--- `window::flags::flag_row`: the flags that the loop passed are made, and the others stay.
-use mathlib.Core.Path.{_≡_, refl, sym, _∙_}
+-- `flags::flag_row`: the flags that the loop passed are made, and the others stay.
+use mathlib.Core.Path.{_≡_, refl}
 use Prim.Native.Nat.{_+_, _*_, _-_, _≤_}
 use native.Mathlib.Omega.{arith}
 use lib.ListN.{length, length-set}
@@ -7,8 +7,8 @@ use denote.Ref.{now}
 use Rattle.walkgraph.specs.Lists.{placed}
 use Rattle.window.specs.Fills.{entries}
 use Rattle.flags.specs.Flags.{flagAt}
-use Rattle.window.proofs.Fills.{placed-none, placed-store}
-use Rattle.flags.proofs.FlagBytes.{flag-at}
+use Rattle.window.proofs.Fills.{placed-none}
+use Rattle.flags.proofs.FlagBytes.{flag-stored}
 use Rattle.flags.proofs.flag_row.Statement.{statement}
 use Rattle.flags.proofs.flag_row.Tie as tie
 
@@ -82,8 +82,7 @@ loop-again : tie.Need-loop-again Inv-loop μ-loop
 loop-again c =
     let l = c .before .before .before .before .before .before .before .loop in
     let a = c .before .before .before .before .before .before .before .before .before .before .args in
-    let e = flag-at (entries (now (a .walk))) (a .stride) (a .stride + 1 + l .x) (a .stride + l .x + 1) (a .stride + l .x) (a .stride + l .x + 2) (l .x + 1) (2 * a .stride + l .x + 1) (omega arith) (omega arith) (omega arith) (omega arith) (omega arith) in
-    (omega arith, simp length-set (omega arith), placed-store _ 0 _ (l .x) (l .x) (c .flags-of .result) (l .flags) (omega arith) (omega arith) (c .flags-of .ensures ∙ sym e) (l .inv .2))
+    (omega arith, simp length-set (omega arith), flag-stored _ (entries (now (a .walk))) (a .stride) (l .x) (c .flags-of .result) (l .flags) (omega arith) (c .flags-of .ensures) (l .inv .2))
 
 same-length : tie.Need-same-length Inv-loop μ-loop
 same-length c = omega arith

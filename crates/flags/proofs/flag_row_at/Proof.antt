@@ -1,11 +1,11 @@
--- `window::flags::flag_row_at`: the part of the walk bytes has the same neighbours as the whole, and the part of the flags comes back in its place.
-use mathlib.Core.Path.{_≡_, _∙_, ap}
-use Prim.Native.Nat.{ℕ, _+_, _*_, _-_}
+-- `flags::flag_row_at`: the part of the walk bytes has the same neighbours as the whole, and the part of the flags comes back in its place.
+use mathlib.Core.Path.{_≡_, _∙_}
+use Prim.Native.Nat.{_+_, _*_, _-_}
 use native.Mathlib.Omega.{arith}
 use lib.ListN.{length-take, length-drop}
 use denote.Ref.{now}
-use Rattle.window.proofs.Fills.{placed-front, part-entries, part-back}
-use Rattle.flags.proofs.FlagBytes.{flag-part}
+use Rattle.window.proofs.Fills.{part-entries, part-back}
+use Rattle.flags.proofs.FlagBytes.{part-flags}
 use borrow.Author.Needs.{needs}
 use Rattle.flags.proofs.flag_row_at.Statement.{statement}
 use Rattle.flags.proofs.flag_row_at.Tie as tie
@@ -61,10 +61,9 @@ same-length c = search needs
 returns : tie.Need-returns
 returns c =
     let a = c .before .before .before .before .before .before .before .args in
-    let e : a .row + 2 * a .stride - (a .row - a .stride) ≡ 3 * a .stride = omega arith in
     part-back (now (a .flags)) (c .before .before .flag-row .last .1 .1 .0) (a .row + 1) (a .row + 1 + a .count - (a .row + 1)) (a .count) _ (omega arith) (omega arith)
     (c .before .flags .given .0 ∙ simp (length-take, length-drop) (omega arith))
-    (λ k h. ap (λ (f : ℕ → ℕ). f k) (c .before .before .flag-row .ensures) ∙ placed-front _ (a .count) _ k h ∙ (rw e (flag-part (now (a .walk)) (a .stride) (a .row) k (omega arith) (omega arith))))
+    (part-flags (now (a .walk)) (c .before .before .flag-row .last .1 .1 .0) _ (a .stride) (a .row) (a .count) (a .row + 2 * a .stride - (a .row - a .stride)) (omega arith) (omega arith) (omega arith) (c .before .before .flag-row .ensures))
 
 pub flag-row-at-spec : {M : Type 1} → statement M
 flag-row-at-spec =

@@ -1,4 +1,4 @@
--- `window::flags::flag_rows`: the rows that the loop passed are made; where the next one starts.
+-- `flags::flag_rows`: the rows that the loop passed are made; where the next one starts.
 use mathlib.Core.Path.{_≡_, refl}
 use Prim.Native.Nat.{_+_, _*_, _-_, _≤_}
 use native.Mathlib.Omega.{arith}

@@ -1,4 +1,4 @@
--- `window::flags::flags_of`: each diagonal move has its flag.
+-- `flags::flags_of`: each diagonal move has its flag.
 use native.Mathlib.Omega.{arith}
 use borrow.Author.Needs.{needs}
 use Rattle.flags.specs.Flags.{flagsOf}

@@ -1,4 +1,4 @@
--- `window::rows::after_inside`: none of the columns that the loop passed is inside.
+-- `intervals::rows::after_inside`: none of the columns that the loop passed is inside.
 use mathlib.Core.Path.{sym, _∙_}
 use Prim.Native.Nat.{_+_, _-_, _≤_}
 use native.Mathlib.Omega.{arith}

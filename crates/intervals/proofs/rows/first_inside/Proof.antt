@@ -1,4 +1,4 @@
--- `window::rows::first_inside`: the first inside column from the loop's column on is the first of all.
+-- `intervals::rows::first_inside`: the first inside column from the loop's column on is the first of all.
 use mathlib.Core.Path.{_≡_, sym, _∙_}
 use Prim.Native.Nat.{_+_, _-_, _≤_}
 use native.Mathlib.Omega.{arith}

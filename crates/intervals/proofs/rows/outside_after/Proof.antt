@@ -1,4 +1,4 @@
--- `window::rows::outside_after`: the column is not before the first inside one, and not inside.
+-- `intervals::rows::outside_after`: the column is not before the first inside one, and not inside.
 use mathlib.Core.Path.{_≡_}
 use Prim.Native.Nat.{_+_, _-_}
 use native.Mathlib.Omega.{arith}

@@ -1,4 +1,4 @@
--- `window::rows::outside_before`: the column is a window column, and not inside.
+-- `intervals::rows::outside_before`: the column is a window column, and not inside.
 use mathlib.Core.Path.{_≡_}
 use Prim.Native.Nat.{_+_, _-_}
 use native.Mathlib.Omega.{arith}

@@ -1,4 +1,4 @@
--- `window::rows::write_row`: the first inside column and one past the last fit two numbers of 16 bits.
+-- `intervals::rows::write_row`: the first inside column and one past the last fit two numbers of 16 bits.
 use mathlib.Core.Path.{refl, _∙_, ap}
 use Prim.Native.Nat.{_+_, _*_, _≤_}
 use native.Mathlib.Omega.{arith}

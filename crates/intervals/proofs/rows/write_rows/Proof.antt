@@ -1,4 +1,4 @@
--- `window::rows::write_rows`: the rows that the loop passed have their intervals.
+-- `intervals::rows::write_rows`: the rows that the loop passed have their intervals.
 use mathlib.Core.Path.{_≡_, refl}
 use Prim.Native.Nat.{_+_, _*_, _-_, _≤_}
 use native.Mathlib.Omega.{arith}

@@ -1,4 +1,4 @@
--- `cells::ring::accepted`: the loop has passed only accepted resources, so the search from k on gives what it gives from 0 on.
+-- `rings::ring::accepted`: the loop has passed only accepted resources, so the search from k on gives what it gives from 0 on.
 use mathlib.Core.Bool.{true}
 use borrow.Author.Needs.{needs}
 use mathlib.Core.Path.{_≡_, sym, _∙_}

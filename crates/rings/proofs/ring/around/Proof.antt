@@ -1,4 +1,4 @@
--- `cells::ring::around`: by the two cases of the ring.
+-- `rings::ring::around`: by the two cases of the ring.
 use borrow.Author.Needs.{needs}
 use Rattle.walkgraph.specs.Window.{hull}
 use Rattle.rings.specs.Rings.{around}

@@ -1,4 +1,4 @@
--- `cells::ring::present`: by the two cases of the ring.
+-- `rings::ring::present`: by the two cases of the ring.
 use borrow.Author.Needs.{needs}
 use borrow.Author.Tests.{lt-ltb, le-ltb}
 use Rattle.rings.specs.Rings.{RingOf, isPresent}

@@ -1,4 +1,4 @@
--- `cells::ring::ring_at`: its four numbers are those of the rectangle.
+-- `rings::ring::ring_at`: its four numbers are those of the rectangle.
 use Prim.Native.Nat.{_+_, _*_}
 use borrow.Author.Needs.{needs, sfits-of}
 use lib.IntN.{pos}

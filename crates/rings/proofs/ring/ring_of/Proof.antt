@@ -1,4 +1,4 @@
--- `cells::ring::ring_of`: after both sides are accepted its four pixels are natural numbers.
+-- `rings::ring::ring_of`: after both sides are accepted its four pixels are natural numbers.
 use mathlib.Core.Path.{_≡_, sym, _∙_}
 use mathlib.Core.Bool.{Bool, true, false, not}
 use Prim.Native.Nat.{ℕ}

@@ -1,4 +1,4 @@
--- `cells::ring::sources`: the loop holds the box around the ring boxes that it has passed.
+-- `rings::ring::sources`: the loop holds the box around the ring boxes that it has passed.
 use mathlib.Core.Path.{_≡_, refl, ap, _∙_}
 use Prim.Native.Nat.{_-_, _/_, _≤_}
 use borrow.Author.Needs.{needs}

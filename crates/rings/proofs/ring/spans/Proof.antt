@@ -1,4 +1,4 @@
--- `cells::ring::spans`: its three tests are those of a bad side.
+-- `rings::ring::spans`: its three tests are those of a bad side.
 use mathlib.Core.Path.{sym}
 use borrow.Author.Needs.{needs}
 use mir.Syntax.{w32}

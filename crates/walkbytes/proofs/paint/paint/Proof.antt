@@ -1,4 +1,4 @@
--- `window::paint::paint`: the blockers that the loop passed are painted.
+-- `walkbytes::paint::paint`: the blockers that the loop passed are painted.
 use mathlib.Core.Path.{_≡_, refl}
 use Prim.Native.Nat.{_+_, _*_, _-_, _/_, _≤_}
 use native.Mathlib.Omega.{arith}

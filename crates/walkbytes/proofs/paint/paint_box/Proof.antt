@@ -1,4 +1,4 @@
--- `window::paint::paint_box`: nothing is painted of a rectangle without width or height; else the rows of its cells in the window, which lie in the buffer.
+-- `walkbytes::paint::paint_box`: nothing is painted of a rectangle without width or height; else the rows of its cells in the window, which lie in the buffer.
 use native.Mathlib.Omega.{arith}
 use Rattle.walkbytes.proofs.Boxed.{start-row, box-fits, box-thin, box-flat, box-done}
 use borrow.Author.Needs.{needs}

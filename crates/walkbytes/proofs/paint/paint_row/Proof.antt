@@ -1,4 +1,4 @@
--- `window::paint::paint_row`: the bytes that the loop passed are 0, and the others stay.
+-- `walkbytes::paint::paint_row`: the bytes that the loop passed are 0, and the others stay.
 use mathlib.Core.Path.{_≡_, refl}
 use Prim.Native.Nat.{_-_, _≤_}
 use native.Mathlib.Omega.{arith}

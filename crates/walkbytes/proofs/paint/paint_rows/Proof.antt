@@ -1,4 +1,4 @@
--- `window::paint::paint_rows`: the rows that the loop passed are 0; where the next one starts.
+-- `walkbytes::paint::paint_rows`: the rows that the loop passed are 0; where the next one starts.
 use mathlib.Core.Path.{_≡_, refl}
 use Prim.Native.Nat.{_+_, _*_, _-_, _≤_}
 use native.Mathlib.Omega.{arith}

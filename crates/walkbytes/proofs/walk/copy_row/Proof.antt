@@ -1,4 +1,4 @@
--- `window::walk::copy_row`: the bytes that the loop passed are the map's, and the others stay.
+-- `walkbytes::walk::copy_row`: the bytes that the loop passed are the map's, and the others stay.
 use mathlib.Core.Path.{_≡_, refl}
 use Prim.Native.Nat.{_+_, _-_, _≤_}
 use native.Mathlib.Omega.{arith}

@@ -1,4 +1,4 @@
--- `window::walk::copy_rows`: the rows that the loop passed are the map's; where the next one starts, in the map and in the walk bytes.
+-- `walkbytes::walk::copy_rows`: the rows that the loop passed are the map's; where the next one starts, in the map and in the walk bytes.
 use mathlib.Core.Path.{_≡_, refl}
 use Prim.Native.Nat.{_+_, _*_, _-_, _≤_}
 use native.Mathlib.Omega.{arith}
