@@ -1,3 +1,4 @@
+-- `start::start_lanes`: the lanes that the loop passed have started.
 use mathlib.Core.Path.{_≡_, refl, _∙_, ap}
 use Prim.Native.Nat.{ℕ, _-_, _/_, _≤_}
 use native.Mathlib.Omega.{arith}

@@ -1,3 +1,4 @@
+-- `start::start_row`: the columns that are looked at are those of the ring box that are inside, and they lie in the buffers.
 use mathlib.Core.Path.{_≡_, refl, sym, _∙_, ap}
 use Prim.Native.Nat.{ℕ, _+_, _*_, _-_, _≤_, _<_, min}
 use native.Mathlib.Omega.{arith}

@@ -1,3 +1,4 @@
+-- `startcells::covers`: by the column, then by the row.
 use mathlib.Core.Path.{_≡_, refl, sym, _∙_}
 use mathlib.Core.Bool.{true, false}
 use borrow.Author.Needs.{needs}

@@ -1,3 +1,4 @@
+-- `startcells::start_cells`: of the cells that the loop passed, those that start have started.
 use mathlib.Core.Path.{_≡_, refl, sym, _∙_, ap}
 use mathlib.Core.Bool.{Bool, not, _&&_}
 use Prim.Native.Nat.{ℕ, _+_, _*_, _-_, _≤_, _<_}

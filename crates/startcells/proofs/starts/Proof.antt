@@ -1,3 +1,4 @@
+-- `startcells::starts`: by the body, then by the walk byte.
 use mathlib.Core.Path.{ap, _∙_}
 use native.Mathlib.Omega.{arith}
 use lib.Dec.{eqb}

@@ -1,3 +1,4 @@
+-- `startcells::unreachable`: the lanes that the loop passed are unreachable, and the others stay.
 use mathlib.Core.Path.{_≡_, refl, sym, _∙_}
 use Prim.Native.Nat.{ℕ, _-_, _≤_}
 use native.Mathlib.Omega.{arith}
