@@ -38,9 +38,10 @@ module _ {lanes stride own feed : ℕ} {rows : List ℕ} {cells bytes versions p
 -- a row that was done, by the answer
 module _ {g : Ground} {down fresh answer : Bool} {y z : ℕ} {s : State} {levels : ℕ → ℕ} (some : first g y < past g y) (due : ¬ (getD (s .pulled) y 0 ≡ getD (s .versions) z 0))
     (row : RowDone (g .lanes) (g .flag) down ((y * g .stride + first g y) * g .lanes) ((z * g .stride + first g y) * g .lanes) (y * g .stride + first g y) (past g y - first g y) (s .levels) levels fresh answer) where
-  pub done-changed : (version : ℕ) → answer ≡ true → version ≡ (getD (s .versions) y 0 + 1) % 2 ^ 32 →
-      Visited g down fresh y z s (record { levels = levels; versions = set (s .versions) y version; pulled = set (s .pulled) y (getD (s .versions) z 0); changed = true })
-  done-changed version e f = rw f (done {changed = true} some due (rw e at row))
+  pub done-changed : (version pull : ℕ) → answer ≡ true → version ≡ (getD (s .versions) y 0 + 1) % 2 ^ 32 → pull ≡ getD (s .versions) z 0 →
+      Visited g down fresh y z s (record { levels = levels; versions = set (s .versions) y version; pulled = set (s .pulled) y pull; changed = true })
+  done-changed version pull e f q = rw (f, q) (done {changed = true} some due (rw e at row))
 
-  pub done-same : answer ≡ false → Visited g down fresh y z s (record { levels = levels; versions = s .versions; pulled = set (s .pulled) y (getD (s .versions) z 0); changed = s .changed })
-  done-same e = done {changed = false} some due (rw e at row)
+  pub done-same : (pull : ℕ) → answer ≡ false → pull ≡ getD (s .versions) z 0 →
+      Visited g down fresh y z s (record { levels = levels; versions = s .versions; pulled = set (s .pulled) y pull; changed = s .changed })
+  done-same pull e q = rw q (done {changed = false} some due (rw e at row))

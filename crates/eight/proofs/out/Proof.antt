@@ -98,7 +98,7 @@ loop-again c =
       omega (arith, c .before .before .before .before .before .before .before .before .before .before),
       out-next 8 fl (a .down) (a .first) (a .feeding) F t e
           (one-marked d i cell (c .before .before .before .before .out .result) news F (m .loop .same) (t .marked) (c .before .before .before .kept .result) (λ k h. out-ahead 8 fl (a .down) (a .first) (a .feeding) F t (i + k) (omega arith)) (rw (c .before .before .before .before .before .before .load2 .ensures) at (c .before .before .before .kept .ensures))),
-      record { each = λ k h. news .each k h ∙ carried _ _ cell i 8 (i + 8 - 8) k e (omega arith) h },
+      record { each = λ k h. omega (arith, news .each k h, carried _ _ cell i 8 (i + 8 - 8) k e (omega arith) h) },
     )
 
 changed-requires : tie.Need-changed-requires Inv-loop μ-loop

@@ -104,7 +104,7 @@ same-length-3 : tie.Need-same-length-3
 same-length-3 c = search needs
 
 returns-3 : tie.Need-returns-3
-returns-3 c = done-changed (c .before .before .before .before .before .before .before .before .before .if1 .left) (c .before .before .before .before .before .before .if2 .left) (c .before .before .before .before .relax .ensures) _ (c .before .before .if3 .taken) (c .wrapping-add-u32 .ensures)
+returns-3 c = done-changed (c .before .before .before .before .before .before .before .before .before .if1 .left) (c .before .before .before .before .before .before .if2 .left) (c .before .before .before .before .relax .ensures) _ _ (c .before .before .if3 .taken) (c .wrapping-add-u32 .ensures) (omega arith)
 
 same-length-4 : tie.Need-same-length-4
 same-length-4 c = search needs
@@ -113,7 +113,7 @@ same-length-5 : tie.Need-same-length-5
 same-length-5 c = search needs
 
 returns-4 : tie.Need-returns-4
-returns-4 c = done-same (c .before .before .before .before .before .before .before .if1 .left) (c .before .before .before .before .if2 .left) (c .before .before .relax .ensures) (c .if3 .left)
+returns-4 c = done-same (c .before .before .before .before .before .before .before .if1 .left) (c .before .before .before .before .if2 .left) (c .before .before .relax .ensures) _ (c .if3 .left) (omega arith)
 
 pub visit-spec : {M : Type 1} → statement M
 visit-spec =

@@ -1,4 +1,5 @@
 -- `run::alternate`: down or up.
+use native.Mathlib.Omega.{arith}
 use Rattle.sweep.proofs.Runs.{sweep-down, sweep-up}
 use borrow.Author.Needs.{needs}
 use Rattle.sweep.proofs.run.alternate.Statement.{statement}
@@ -17,7 +18,7 @@ same-length-3 : tie.Need-same-length-3
 same-length-3 c = search needs
 
 returns : tie.Need-returns
-returns c = sweep-down (c .before .before .before .before .before .before .before .before .before .if1 .taken) (c .before .before .before .before .before .sweep .ensures)
+returns c = sweep-down (omega (arith, c .before .before .before .before .before .before .before .before .before .if1 .taken)) (c .before .before .before .before .before .sweep .ensures)
 
 sweep-requires-2 : tie.Need-sweep-requires-2
 sweep-requires-2 c κs = search needs
@@ -32,7 +33,7 @@ same-length-6 : tie.Need-same-length-6
 same-length-6 c = search needs
 
 returns-2 : tie.Need-returns-2
-returns-2 c = sweep-up (c .before .before .before .before .before .before .before .before .before .if1 .left) (c .before .before .before .before .before .sweep2 .ensures)
+returns-2 c = sweep-up (λ q. c .before .before .before .before .before .before .before .before .before .if1 .left (omega (arith, q))) (c .before .before .before .before .before .sweep2 .ensures)
 
 pub alternate-spec : {M : Type 1} → statement M
 alternate-spec =

@@ -1,4 +1,4 @@
--- `run::ends`.
+-- `run::ends`: not where something changed; else from the second sweep on.
 use borrow.Author.Needs.{needs}
 use Rattle.sweep.proofs.run.ends.Statement.{statement}
 use Rattle.sweep.proofs.run.ends.Tie as tie
