@@ -1,14 +1,13 @@
 -- The gates that a flag byte of the window gives are the rules of document 01: a cell is open where it is walkable, a diagonal where its corner is.
-use mathlib.Core.Path.{_≡_, refl, sym, _∙_, ap}
+use mathlib.Core.Path.{_≡_, refl, _∙_, ap}
 use mathlib.Core.Bool.{Bool, true, false, cond}
-use Prim.Native.Nat.{ℕ, zero, suc, _+_, _-_, _*_, _/_, _%_, _≤_}
-use native.Mathlib.Numerals.{add-one}
+use Prim.Native.Nat.{ℕ, suc, _+_, _-_, _*_, _/_, _%_, _≤_}
 use native.Mathlib.Omega.{arith}
 use lib.Dec.{T}
 use Rattle.walkgraph.specs.Sweep.{PaddedWindow, inWindow, corner, cornerWest, cornerEast}
 use Rattle.walkgraph.specs.Buffers.{bit, walkByte, flagByte}
 use Rattle.walkgraph.proofs.Tests.{cond-true}
-use Rattle.ways.specs.Row.{gate, walkGate, turned, westGate, eastGate}
+use Rattle.ways.specs.Row.{gate, walkGate, westGate, eastGate}
 
 -- row z feeds row y, going down or up
 abbrev pub FeedsRow : Bool → ℕ → ℕ → Type 0

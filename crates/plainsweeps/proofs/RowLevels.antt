@@ -1,20 +1,19 @@
 -- A row of the buffer after both ways is the row of document 01 after its two passes, a base above.
 use mathlib.Core.Path.{_≡_, refl, sym, _∙_, ap}
-use mathlib.Core.Bool.{Bool, true, false, cond, not, _&&_}
+use mathlib.Core.Bool.{Bool, cond}
 use mathlib.Core.List.{List}
 use Prim.Native.Nat.{ℕ, zero, suc, _+_, _-_, _*_, _≤_, _<_, min}
 use native.Mathlib.Decide.{decLe}
 use native.Mathlib.Omega.{arith}
 use lib.Dec.{T, not-T}
 use Rattle.walkgraph.specs.Lanes.{unreachable}
-use Rattle.walkgraph.specs.Sweep.{PaddedWindow, inWindow, written, readRow, diagonalFrom, leastOfFive, corner, cornerWest, cornerEast, relaxed}
+use Rattle.walkgraph.specs.Sweep.{PaddedWindow, inWindow, written, readRow, cornerWest, cornerEast, relaxed}
 use Rattle.walkgraph.specs.Buffers.{flagByte, cellPlace}
 use Rattle.walkgraph.proofs.Tests.{by-cases, decT, and-left, and-right, and-pair, cond-ind, cond-true, cond-false}
 use Rattle.walkgraph.proofs.Boxes.{box-in}
 use Rattle.walkgraph.proofs.Sweeps.{PaddingShut, written-in}
 use Rattle.walkgraph.proofs.RelaxedRow.{relaxed-at}
 use Rattle.walkgraph.proofs.RowPasses as Passes
-use Rattle.lane.specs.Levels.{outLevel, backLevel}
 use Rattle.ways.specs.Row.{walkGate, westGate, eastGate}
 use Rattle.plainsweeps.proofs.Gates.{FeedsRow, walk-gate, west-gate, east-gate}
 use Rattle.plainsweeps.proofs.LevelStep.{out-open, out-shut, back-open, back-shut}

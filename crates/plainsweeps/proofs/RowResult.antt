@@ -3,7 +3,7 @@ use mathlib.Core.Path.{_≡_, refl, sym, _∙_, ap}
 use mathlib.Core.Logic.{_≢_, _⊎_, inl, inr, ⊎-elim}
 use mathlib.Core.Bool.{Bool, true, false}
 use mathlib.Core.List.{List}
-use Prim.Native.Nat.{ℕ, zero, suc, _+_, _-_, _*_, _/_, _%_, _≤_, _<_}
+use Prim.Native.Nat.{ℕ, _+_, _-_, _*_, _/_, _%_, _≤_, _<_}
 use native.Mathlib.Nat.{div-add-mod', div-lt-iff-lt-mul, mod-lt, add-mul}
 use native.Mathlib.Decide.{decLe}
 use native.Mathlib.Omega.{arith}
@@ -13,7 +13,7 @@ use Rattle.walkgraph.specs.Sweep.{PaddedWindow, inWindow, written, readRow, rel
 use Rattle.walkgraph.specs.Buffers.{flagByte, cellPlace}
 use Rattle.walkgraph.proofs.Tests.{by-cases}
 use Rattle.walkgraph.proofs.Sweeps.{PaddingShut}
-use Rattle.ways.specs.Row.{outRow, bothRow, Differ, Tells, RowDone, changed, both, kept}
+use Rattle.ways.specs.Row.{outRow, bothRow, Differ, RowDone, changed, both, kept}
 use Rattle.plainsweeps.proofs.Gates.{FeedsRow}
 use Rattle.ways.proofs.Lanewise as Lanewise
 use Rattle.plainsweeps.proofs.Columns as Columns

@@ -1,5 +1,5 @@
 -- The alternating sweeps on the buffers: they hold the lanes of document 01's plain sweeps, they stop, and the number with which they stop is the sweep count.
-use mathlib.Core.Path.{_≡_, refl, sym, _∙_, ap, subst}
+use mathlib.Core.Path.{_≡_, refl, sym, _∙_, ap}
 use mathlib.Core.Bool.{Bool, true, false, cond, not}
 use mathlib.Core.List.{List, []}
 use Prim.Native.Nat.{ℕ, zero, suc, _+_, _-_, _*_, _%_, _≤_, _<_}
@@ -9,7 +9,7 @@ use lib.ListN.{getD, length}
 use lib.Dec.{T, eqb}
 use borrow.Author.Tests.{eq-eqb, ne-eqb}
 use Rattle.walkgraph.specs.Lanes.{unreachable}
-use Rattle.walkgraph.specs.Sweep.{PaddedWindow, written, readRow, valueAt, Direction, down, up, turn, direction, sweep, sweeps, Quiet, IsCount}
+use Rattle.walkgraph.specs.Sweep.{PaddedWindow, written, valueAt, Direction, down, up, turn, direction, sweep, sweeps, Quiet, IsCount}
 use Rattle.walkgraph.proofs.Tests.{by-cases}
 use Rattle.walkgraph.proofs.Sweeps.{PaddingShut, Sound, sound-shut, sweeps-sound, quiet-last, twice, twice-is}
 use Rattle.row.specs.Visits.{Ground, State}

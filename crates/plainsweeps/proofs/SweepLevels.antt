@@ -1,7 +1,6 @@
 -- One sweep on the buffers is document 01's plain sweep, in every lane.
 use mathlib.Core.Path.{_≡_, refl, sym, _∙_, ap}
-use mathlib.Core.Logic.{_≢_}
-use mathlib.Core.Bool.{Bool, true, false, cond}
+use mathlib.Core.Bool.{Bool, true, false}
 use mathlib.Core.List.{List, []}
 use Prim.Native.Nat.{ℕ, zero, suc, _+_, _-_, _≤_, _<_}
 use native.Mathlib.Decide.{decLe}
@@ -9,7 +8,7 @@ use native.Mathlib.Omega.{arith}
 use lib.ListN.{getD, length, List·getD-eq-default}
 use lib.Dec.{T}
 use Rattle.walkgraph.specs.Lanes.{unreachable}
-use Rattle.walkgraph.specs.Sweep.{PaddedWindow, written, readRow, valueAt, relaxed, Direction, down, up, place, swept, sweep}
+use Rattle.walkgraph.specs.Sweep.{PaddedWindow, written, readRow, valueAt, Direction, down, up, place, swept, sweep}
 use Rattle.walkgraph.proofs.Tests.{by-cases}
 use Rattle.walkgraph.proofs.Sweeps.{PaddingShut, written-in, place-place, place-le, sweep-row, sweep-past, swept-first, swept-next}
 use Rattle.walkgraph.proofs.RelaxedRow.{relaxed-length}

@@ -1,9 +1,9 @@
 -- One turn of a sweep on the buffers is one row of document 01's plain sweep: a row that is skipped, or has no inside cell, is one that the plain sweep leaves as it is.
-use mathlib.Core.Path.{_≡_, refl, sym, _∙_, ap, subst}
-use mathlib.Core.Logic.{_≢_, _⊎_, inl, inr, ⊎-elim}
+use mathlib.Core.Path.{_≡_, refl, sym, _∙_, ap}
+use mathlib.Core.Logic.{_≢_, _⊎_, inl, inr}
 use mathlib.Core.Bool.{Bool, true, false, cond, _&&_}
 use mathlib.Core.List.{List, []}
-use Prim.Native.Nat.{ℕ, zero, suc, _+_, _-_, _*_, _^_, _%_, _≤_, _<_}
+use Prim.Native.Nat.{ℕ, suc, _+_, _-_, _*_, _^_, _≤_, _<_}
 use native.Mathlib.Nat.{mod-eq-of-lt}
 use native.Mathlib.Decide.{decLe, ℕ-discrete}
 use native.Mathlib.Omega.{arith}
@@ -12,11 +12,10 @@ use lib.Seq.{getD-set-same, getD-set-other}
 use lib.Dec.{T, leb, leb→le, le→leb, not-T}
 use lib.Arith.{lt→nleb}
 use Rattle.walkgraph.specs.Lanes.{unreachable}
-use Rattle.walkgraph.specs.Sweep.{PaddedWindow, inWindow, written, readRow, valueAt, relaxed, Direction, down, up, place, swept, sweep}
+use Rattle.walkgraph.specs.Sweep.{PaddedWindow, inWindow, written, readRow, valueAt, relaxed, Direction, down, up, place, swept}
 use Rattle.walkgraph.specs.Buffers.{flagByte, cellPlace}
 use Rattle.walkgraph.proofs.Tests.{by-cases, and-left, and-right, and-pair, cond-true, cond-false}
 use Rattle.walkgraph.proofs.Sweeps.{PaddingShut, written-in, place-place, place-le, swept-first, swept-next}
-use Rattle.walkgraph.proofs.RelaxedRow.{relaxed-length}
 use Rattle.walkgraph.proofs.RelaxedRow as Relaxed
 use Rattle.walkgraph.proofs.Skipping.{Feeds, Fresh, Relax, relax-fresh, relaxed-quiet, quiet-row, fresh-same, empty-quiet}
 use Rattle.ways.specs.Row.{RowDone}

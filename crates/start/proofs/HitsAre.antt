@@ -1,11 +1,10 @@
 -- The lanes start exactly where document 01 says: at the inside, walkable cells of the ring of their resource.
-use mathlib.Core.Path.{_≡_, refl, sym, _∙_, ap}
-use mathlib.Core.Bool.{Bool, true, false, cond, not, _&&_}
+use mathlib.Core.Path.{_≡_, sym, _∙_, ap}
+use mathlib.Core.Bool.{Bool, true, false, not, _&&_}
 use mathlib.Core.List.{List}
-use Prim.Native.Nat.{ℕ, zero, suc, _+_, _-_, _*_, _/_, _≤_, _<_, min, max}
-use native.Mathlib.Nat.{suc-mul}
+use Prim.Native.Nat.{ℕ, _+_, _-_, _*_, _≤_, _<_, min, max}
 use native.Mathlib.Omega.{arith}
-use lib.ListN.{getD, length}
+use lib.ListN.{getD}
 use lib.Dec.{T, eqb, ltb, eqb→eq, eqb-refl, ltb→lt, lt→ltb, T-not, not-T}
 use Rattle.walkgraph.specs.Map.{Box, In, inBox}
 use Rattle.walkgraph.specs.Painting.{rectangle}
@@ -20,7 +19,7 @@ use Rattle.walkgraph.proofs.FieldCall.{shut, width-is, height-is}
 use Rattle.walkgraph.proofs.Sweeps.{PaddingShut}
 use Rattle.window.specs.declared.record.Window.{Window}
 use Rattle.window.specs.Windows.{windowOver}
-use Rattle.startcells.specs.Hits.{someBelow, startsHere, cellsHit}
+use Rattle.startcells.specs.Hits.{startsHere, cellsHit}
 use Rattle.start.specs.Hits.{firstColumn, pastColumn, rowHit, ringHit, lanesHit}
 use Rattle.startcells.proofs.Some.{some-at, at-some}
 

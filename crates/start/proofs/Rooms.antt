@@ -1,5 +1,4 @@
 -- The places that a row of a ring box looks at are among the lanes and the walk bytes.
-use mathlib.Core.Path.{_≡_}
 use mathlib.Core.List.{List}
 use Prim.Native.Nat.{ℕ, suc, _+_, _*_, _-_, _≤_, _<_, min, max}
 use native.Mathlib.Nat.{suc-mul, mul-le-mul-right}

@@ -1,5 +1,5 @@
 -- `start::start_lane`: the resource has a ring, since all have one.
-use mathlib.Core.Path.{_≡_, sym, _∙_}
+use mathlib.Core.Path.{sym, _∙_}
 use borrow.Author.Needs.{needs}
 use Rattle.rings.specs.Rings.{RingOf}
 use Rattle.cells.proofs.Bools.{clash}

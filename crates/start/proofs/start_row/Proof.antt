@@ -1,6 +1,6 @@
 -- `start::start_row`: the columns that are looked at are those of the ring box that are inside, and they lie in the buffers.
-use mathlib.Core.Path.{_≡_, refl, sym, _∙_, ap}
-use Prim.Native.Nat.{ℕ, _+_, _*_, _-_, _≤_, _<_, min}
+use mathlib.Core.Path.{_≡_}
+use Prim.Native.Nat.{_+_, _*_, _-_, min}
 use native.Mathlib.Omega.{arith}
 use lib.ListN.{length, getD}
 use denote.Ref.{now}

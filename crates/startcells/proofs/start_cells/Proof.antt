@@ -1,20 +1,18 @@
 -- `startcells::start_cells`: of the cells that the loop passed, those that start have started.
-use mathlib.Core.Path.{_≡_, refl, sym, _∙_, ap}
+use mathlib.Core.Path.{_≡_, refl, _∙_, ap}
 use mathlib.Core.Bool.{Bool, not, _&&_}
-use Prim.Native.Nat.{ℕ, _+_, _*_, _-_, _≤_, _<_}
+use Prim.Native.Nat.{_+_, _*_, _-_, _≤_, _<_}
 use native.Mathlib.Omega.{arith}
-use lib.ListN.{length, getD, set, length-set}
+use lib.ListN.{length, getD, length-set}
 use lib.IntN.{ℤ, pos}
 use lib.Dec.{eqb}
 use mir.Syntax.{w16}
-use mir.Val.{toZ, ofZ}
 use mir.ValLaws.{toZ-ofZ}
 use denote.Ref.{now}
 use borrow.Author.Needs.{needs, sfits-of}
-use Rattle.walkgraph.specs.Map.{inBox}
 use Rattle.lane.specs.Levels.{level, levelAt, startedLevel}
 use Rattle.cells.specs.Boxes.{boxOf}
-use Rattle.startcells.specs.Hits.{someBelow, startedLevels, startsHere, cellsHit}
+use Rattle.startcells.specs.Hits.{startedLevels, startsHere, cellsHit}
 use Rattle.startcells.proofs.Some.{some-none, started-none}
 use Rattle.startcells.proofs.Turns.{cell-more}
 use Rattle.startcells.proofs.start_cells.Statement.{statement}

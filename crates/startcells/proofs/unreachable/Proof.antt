@@ -1,10 +1,9 @@
 -- `startcells::unreachable`: the lanes that the loop passed are unreachable, and the others stay.
-use mathlib.Core.Path.{_≡_, refl, sym, _∙_}
+use mathlib.Core.Path.{_≡_, refl}
 use Prim.Native.Nat.{ℕ, _-_, _≤_}
 use native.Mathlib.Omega.{arith}
 use lib.ListN.{length, length-set}
 use denote.Ref.{now}
-use borrow.Author.Needs.{needs}
 use Rattle.walkgraph.specs.Lists.{placed}
 use Rattle.lane.specs.Levels.{levelAt}
 use Rattle.startcells.proofs.Some.{filled-none, filled-set}
