@@ -46,14 +46,9 @@ module _ (m : PaddedWindow) where
       let k : (2 * y + 1) / 2 ≡ y = omega arith in
       (u .entries (2 * y) (omega arith) ∙ rw (eq-eqb _ _ e, f), u .entries (2 * y + 1) (omega arith) ∙ rw (ne-eqb _ _ g, k))
 
--- ---- the ground of the sweeps
-module _ (c : Call) (some : 0 < c .lanes) (filled : sourceBox c .left ≤ sourceBox c .right) (aimed : c .targets .left ≤ c .targets .right)
-    {flags₀ flags rows₀ rows : List ℕ} (flags-are : UsedPart (paddedCells (paddedOf c)) (byCell (paddedOf c) (flagByte (paddedOf c))) flags₀ flags)
-    (rows-are : UsedPart (2 * paddedOf c .height) (rowEnds (paddedOf c)) rows₀ rows) where
-  abbrev pub groundOf : Ground
-  groundOf = record { lanes = c .lanes; stride = paddedOf c .width + 2; flag = λ i. getD flags i 0; rows = rows }
-
-  interval-of : (y : ℕ) → Interval (paddedOf c) y (rowFirst (paddedOf c) y) (rowPast (paddedOf c) y)
+-- ---- the row intervals
+module _ (c : Call) (filled : sourceBox c .left ≤ sourceBox c .right) (aimed : c .targets .left ≤ c .targets .right) where
+  pub interval-of : (y : ℕ) → Interval (paddedOf c) y (rowFirst (paddedOf c) y) (rowPast (paddedOf c) y)
   unfolding paddedOf
   interval-of y =
       let i = row-interval (paddedOf c) y in
@@ -64,6 +59,13 @@ module _ (c : Call) (some : 0 < c .lanes) (filled : sourceBox c .left ≤ source
         within = row-inside (c .reach) (c .width) (c .height) (unblocked c) (sourceBox c) (c .targets) filled aimed y;
         only = inside-row (c .reach) (c .width) (c .height) (unblocked c) (sourceBox c) (c .targets) filled aimed y;
       }
+
+-- ---- the ground of the sweeps
+module _ (c : Call) (some : 0 < c .lanes) (filled : sourceBox c .left ≤ sourceBox c .right) (aimed : c .targets .left ≤ c .targets .right)
+    {flags₀ flags rows₀ rows : List ℕ} (flags-are : UsedPart (paddedCells (paddedOf c)) (byCell (paddedOf c) (flagByte (paddedOf c))) flags₀ flags)
+    (rows-are : UsedPart (2 * paddedOf c .height) (rowEnds (paddedOf c)) rows₀ rows) where
+  abbrev pub groundOf : Ground
+  groundOf = record { lanes = c .lanes; stride = paddedOf c .width + 2; flag = λ i. getD flags i 0; rows = rows }
 
   pub ground-is : GroundIs (paddedOf c) groundOf
   unfolding inWindow
@@ -81,11 +83,11 @@ module _ (c : Call) (some : 0 < c .lanes) (filled : sourceBox c .left ≤ source
             let g : 2 * (y - 1) + 1 ≡ 2 * y - 1 = omega arith in
             let a : getD rows (2 * y - 2) 0 ≡ rowFirst (paddedOf c) y = rw (e, f) at (r .0) in
             let b : getD rows (2 * y - 1) 0 ≡ rowPast (paddedOf c) y = rw (e, g) at (r .1) in
-            rw (a, b) (interval-of y);
+            rw (a, b) (interval-of c filled aimed y);
       }
 
   -- ---- the sweeps from the start tables
-  module _ (rules : LaneRules (c .reach)) (reach : 1 ≤ c .reach) (few : 2 * c .reach + 2 < never) (quiet : ℕ) (above : quiet + windowOf c .top ≤ sourceBox c .top)
+  module _ (rules : LaneRules (c .reach)) (reach : 1 ≤ c .reach) (few : 2 * c .reach + 2 < never) (quiet : ℕ) (above : quiet ≤ sourceBox c .top - windowOf c .top)
       (r : Run) (unpulled : Unpulled (paddedOf c) quiet (r .versions) (r .pulledDown) (r .pulledUp))
       (holds : (l v : ℕ) → l < c .lanes → v ≤ paddedOf c .height + 1 → Holds (paddedOf c) (c .lanes) (baseOf (c .reach)) (r .levels) l v (getD (laneStart c l) v []))
       (versions : paddedOf c .height + 2 ≤ length (r .versions)) (downs : paddedOf c .height + 2 ≤ length (r .pulledDown)) (ups : paddedOf c .height + 2 ≤ length (r .pulledUp)) where

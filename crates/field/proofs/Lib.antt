@@ -7,4 +7,5 @@ pub mod Started
 pub mod FieldJoin
 pub mod RunStays
 pub mod UsedParts
+pub mod Made
 pub mod Parts

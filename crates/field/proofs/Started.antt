@@ -30,7 +30,7 @@ pub record Unpulled (m : PaddedWindow) (quiet : ℕ) (versions downs ups : List 
   pub below : (v : ℕ) → quiet < v → v ≤ m .height + 1 → getD downs v 0 ≡ never
   pub up : (v : ℕ) → v ≤ m .height + 1 → getD ups v 0 ≡ never
 
-module _ (c : Call) (quiet : ℕ) (above : quiet + windowOf c .top ≤ sourceBox c .top) where
+module _ (c : Call) (quiet : ℕ) (above : quiet ≤ sourceBox c .top - windowOf c .top) where
   abbrev M : PaddedWindow
   M = paddedOf c
 
