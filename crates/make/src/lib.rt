@@ -1,0 +1,48 @@
+// The field made: the ground, the start, the sweeps.
+pub mod ground;
+pub mod versions;
+
+use plan::site::Site;
+use sweep::run;
+use window::record;
+ghost use Prim.Native.Nat.{_+_};
+ghost use Rattle.row.specs.Buffers.{groundOf};
+ghost use Rattle.make.specs.Makes.{quietRows, RelaxFits, Relaxed};
+
+// The sweeps over a site, with versions made before them and cleared after them: how many.
+pub fn relax(
+    site: Site,
+    lanes: &mut [i16],
+    flags: &[u8],
+    rows: &[u16],
+    versions: &mut [u32],
+    pulled_down: &mut [u32],
+    pulled_up: &mut [u32],
+) -> usize
+    requires { ⌜ RelaxFits site (now lanes) (now flags) (now rows) (now versions) (now «pulled_down») (now «pulled_up») ⌝ }
+    ensures { λ r. ⌜ Relaxed (groundOf (site .window .lanes) (site .window .width + 2) (now (flags .entry)) (now (rows .entry))) (site .window .height) (quietRows site) (now (lanes .entry)) (now (versions .entry)) (now («pulled_down» .entry)) (now («pulled_up» .entry)) (now (lanes .exit)) (now (versions .exit)) (now («pulled_down» .exit)) (now («pulled_up» .exit)) r ⌝ }
+{
+    let window = site.window;
+    let sources = site.sources;
+    let height = window.height;
+    versions::unpulled(
+        versions,
+        pulled_down,
+        pulled_up,
+        height,
+        versions::above(window, sources),
+    );
+    let sweeps = run::run(
+        lanes,
+        flags,
+        rows,
+        versions,
+        pulled_down,
+        pulled_up,
+        window.lanes,
+        record::stride(window),
+        height,
+    );
+    versions::cleared(versions, pulled_down, pulled_up, height);
+    sweeps
+}
