@@ -1,22 +1,20 @@
 -- The field call joined: buffers that end as the window's walk bytes, flags and intervals, lanes that start as document 01 says, and a run of sweeps that ended,
 -- make the field.
 use mathlib.Core.Path.{_≡_, refl, sym, _∙_, ap}
-use mathlib.Core.Bool.{Bool, true, false, cond}
+use mathlib.Core.Bool.{Bool, true, false}
 use mathlib.Core.List.{List, []}
-use Prim.Native.Nat.{ℕ, zero, suc, _+_, _-_, _*_, _/_, _%_, _≤_, _<_}
+use Prim.Native.Nat.{ℕ, _+_, _-_, _*_, _/_, _%_, _≤_, _<_}
 use native.Mathlib.Omega.{arith}
 use lib.ListN.{getD, length}
 use lib.IntN.{ℤ, pos}
-use lib.Signed.{mag}
-use lib.Dec.{T}
 use lib.Arith.{digits-lt, digits-div, digits-mod}
 use borrow.Author.Tests.{eq-eqb, ne-eqb}
-use Rattle.walkgraph.specs.Lanes.{unreachable}
+use Rattle.walkgraph.specs.Lanes.{unreachable, bias}
 use Rattle.walkgraph.specs.Sweep.{PaddedWindow, inWindow, padded, sweeps}
-use Rattle.walkgraph.specs.Buffers.{Call, sourceBox, windowOf, paddedOf, unblocked, laneStart, cellPlace, paddedCells, LanesAre, CountIs, walkByte, flagByte, rowFirst, rowPast, UsedPart, byCell, rowEnds, Lent, FieldMade}
+use Rattle.walkgraph.specs.Buffers.{Call, sourceBox, windowOf, paddedOf, unblocked, laneStart, cellPlace, paddedCells, LanesAre, CountIs, flagByte, rowFirst, rowPast, UsedPart, byCell, rowEnds}
 use Rattle.walkgraph.proofs.Boxes.{in-box}
 use Rattle.walkgraph.proofs.Lanes.{LaneRules}
-use Rattle.walkgraph.proofs.Intervals.{IsInterval, row-interval, row-inside, inside-row}
+use Rattle.walkgraph.proofs.Intervals.{row-interval, row-inside, inside-row}
 use Rattle.walkgraph.proofs.FieldCall.{shut, reach-is, SourceIn, lane-sound}
 use Rattle.lane.specs.Levels.{levelAt}
 use Rattle.row.specs.Visits.{Ground}
@@ -120,8 +118,8 @@ module _ (c : Call) (some : 0 < c .lanes) (filled : sourceBox c .left ≤ source
         RunLevels.ended-count (paddedOf c) (shut c) groundOf ground-is (baseOf (c .reach)) high some-reach few-sweeps (SourceIn c) (laneStart c) (lane-sound c) sized r kept versions downs ups e
 
     -- and its lanes are the field
-    pub run-lanes : {q : Run} {n : ℕ} → Ended groundOf (paddedOf c .height) r q n → (before after : List ℤ) → q .levels ≡ levelAt after → length after ≡ length before →
-        ((i : ℕ) → mag (getD after i (pos 0)) < 32768) → ((i : ℕ) → paddedCells (paddedOf c) * c .lanes ≤ i → getD after i (pos 0) ≡ getD before i (pos 0)) → LanesAre c before after
-    run-lanes {q} {n} e before after same long fits stay =
+    pub run-lanes : bias (c .reach) < 32768 → {q : Run} {n : ℕ} → Ended groundOf (paddedOf c .height) r q n → (before after : List ℤ) → q .levels ≡ levelAt after → length after ≡ length before →
+        ((i : ℕ) → paddedCells (paddedOf c) * c .lanes ≤ i → getD after i (pos 0) ≡ getD before i (pos 0)) → LanesAre c before after
+    run-lanes small {q} {n} e before after same long stay =
         let a = RunLevels.after (paddedOf c) (shut c) groundOf ground-is (baseOf (c .reach)) high some-reach few-sweeps (SourceIn c) (laneStart c) (lane-sound c) sized r kept versions downs ups (e .sweeps) in
-        lanes-are c rules n (run-count e) before after long fits (λ l v k h x j. sym (ap (λ (f : ℕ → ℕ). f (slot (c .lanes) (paddedOf c .width + 2) l x v)) same) ∙ a .kept .holds l v k h x j) stay
+        lanes-are c rules small n (run-count e) before after long (λ l v k h x j. sym (ap (λ (f : ℕ → ℕ). f (slot (c .lanes) (paddedOf c .width + 2) l x v)) same) ∙ a .kept .holds l v k h x j) stay

@@ -1,19 +1,15 @@
 -- From levels to the lanes of document 01: what the sweeps leave in the buffer is the field.
-use mathlib.Core.Path.{_≡_, refl, sym, _∙_, ap}
-use mathlib.Core.Bool.{Bool, true, false, cond}
+use mathlib.Core.Path.{_≡_, sym, _∙_, ap}
+use mathlib.Core.Bool.{Bool, cond}
 use mathlib.Core.List.{List, []}
-use Prim.Native.Nat.{ℕ, zero, suc, _+_, _-_, _*_, _≤_, _<_}
+use Prim.Native.Nat.{ℕ, suc, _+_, _-_, _*_, _≤_, _<_}
 use native.Mathlib.Omega.{arith}
-use native.Mathlib.Decide.{decLe}
 use lib.ListN.{getD, length, List·getD-eq-default}
-use lib.IntN.{ℤ, pos, negsuc, subℕ}
-use lib.Signed.{mag}
-use lib.Dec.{T}
+use lib.IntN.{ℤ, pos, negsuc}
 use Rattle.walkgraph.specs.Lists.{tabulate}
 use Rattle.walkgraph.specs.Lanes.{unreachable, bias, laneOf}
-use Rattle.walkgraph.specs.Sweep.{PaddedWindow, readRow, valueAt, starts, startTable, sweeps}
-use Rattle.walkgraph.specs.Buffers.{Call, paddedOf, windowOf, startsLane, laneStart, cellPlace, lanePlace, paddedCells, LaneIs, LanesAre, CountIs}
-use Rattle.walkgraph.proofs.Tests.{by-cases, cond-ind}
+use Rattle.walkgraph.specs.Sweep.{PaddedWindow, valueAt, starts, startTable, sweeps}
+use Rattle.walkgraph.specs.Buffers.{Call, paddedOf, laneStart, cellPlace, lanePlace, paddedCells, LanesAre, CountIs}
 use Rattle.walkgraph.proofs.Lists.{getD-tabulate, length-tabulate}
 use Rattle.walkgraph.proofs.Signed.{subℕ-pos, subℕ-neg}
 use Rattle.walkgraph.proofs.Lanes.{LaneRules}
@@ -32,12 +28,12 @@ module _ (reach : ℕ) (rules : LaneRules reach) where
   base-high = omega (arith, rules .top, rules .low)
 
   -- a lane whose level is that of a half cost is the lane of that half cost
-  pub level-lane : (z : ℤ) (v : ℕ) → mag z < 32768 → level z ≡ v + baseOf reach → z ≡ laneOf (bias reach) v
+  pub level-lane : bias reach < 32768 → (z : ℤ) (v : ℕ) → level z ≡ v + baseOf reach → z ≡ laneOf (bias reach) v
   unfolding laneOf
-  level-lane (pos n) v f e =
+  level-lane small (pos n) v e =
       let g : v ≡ n + bias reach = omega (arith, rules .top, rules .low) in
       sym (subℕ-pos v (bias reach) (omega arith) ∙ ap pos (omega arith))
-  level-lane (negsuc n) v f e =
+  level-lane small (negsuc n) v e =
       let g : v + suc n ≡ bias reach = omega (arith, rules .top, rules .low) in
       sym (subℕ-neg v (bias reach) (omega arith) ∙ ap negsuc (omega arith))
 
@@ -55,17 +51,17 @@ sized-start m lanes source =
     }
 
 -- what the buffer holds after the counted sweeps are the promised lanes
-pub lanes-are : (c : Call) → LaneRules (c .reach) → (k : ℕ) → CountIs c k → (before after : List ℤ) → length after ≡ length before → ((i : ℕ) → mag (getD after i (pos 0)) < 32768) →
+pub lanes-are : (c : Call) → LaneRules (c .reach) → bias (c .reach) < 32768 → (k : ℕ) → CountIs c k → (before after : List ℤ) → length after ≡ length before →
     ((l v : ℕ) → l < c .lanes → v ≤ paddedOf c .height + 1 → Holds (paddedOf c) (c .lanes) (baseOf (c .reach)) (levelAt after) l v (getD (sweeps (paddedOf c) (laneStart c l) k) v [])) →
     ((i : ℕ) → paddedCells (paddedOf c) * c .lanes ≤ i → getD after i (pos 0) ≡ getD before i (pos 0)) → LanesAre c before after
 unfolding lanePlace cellPlace counted
-lanes-are c rules k n before after long fits holds stay =
+lanes-are c rules small k n before after long holds stay =
     record {
       long = long;
       cells = λ l x y h i j. (
         valueAt (paddedOf c) (sweeps (paddedOf c) (laneStart c l) k) x y,
         lanes-made c k n l x y h,
-        level-lane (c .reach) rules (getD after (slot (c .lanes) (paddedOf c .width + 2) l x y) (pos 0)) _ (fits _) (holds l y h (omega arith) x (omega arith)),
+        level-lane (c .reach) rules small (getD after (slot (c .lanes) (paddedOf c .width + 2) l x y) (pos 0)) _ (holds l y h (omega arith) x (omega arith)),
       );
       stay = stay;
     }

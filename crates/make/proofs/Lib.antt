@@ -6,3 +6,4 @@ pub mod FieldJoin
 pub mod RunStays
 pub mod UsedParts
 pub mod Made
+pub mod SiteMade

@@ -1,31 +1,22 @@
 -- The field of a call made: what its fills, its start and its sweeps leave in the lent buffers is what document 01 promises.
 use mathlib.Core.Path.{_≡_, refl, sym, _∙_, ap}
-use mathlib.Core.Bool.{Bool, true, false, not, _&&_}
+use mathlib.Core.Bool.{false}
 use mathlib.Core.Logic.{⊎-elim}
 use mathlib.Core.List.{List, []}
-use Prim.Native.Nat.{ℕ, _+_, _-_, _*_, _/_, _≤_, _<_, min, max}
+use Prim.Native.Nat.{ℕ, _+_, _-_, _*_, _/_, _≤_, _<_}
 use native.Mathlib.Omega.{arith}
-use lib.ListN.{getD, length}
+use lib.ListN.{getD, length, List·getD-eq-default}
 use lib.IntN.{ℤ, pos}
-use lib.Signed.{mag}
-use lib.Dec.{T, eqb, eqb→eq, not-T}
-use Rattle.walkgraph.specs.Map.{Box, inBox}
+use Rattle.walkgraph.specs.Map.{Box}
 use Rattle.walkgraph.specs.Lists.{placed}
-use Rattle.walkgraph.specs.Painting.{rectangle}
-use Rattle.walkgraph.specs.Ring.{ringBox, body}
+use Rattle.walkgraph.specs.Lanes.{bias}
 use Rattle.walkgraph.specs.Sweep.{PaddedWindow, padded}
-use Rattle.walkgraph.specs.Buffers.{Call, resourceCount, sourceBox, windowOf, paddedOf, unblocked, paddedCells, walkByte, flagByte, rowFirst, rowPast, UsedPart, byCell, rowEnds, laneStart, LanesAre, CountIs, Lent, FieldMade}
-use Rattle.walkgraph.proofs.Tests.{and-left, T-false}
+use Rattle.walkgraph.specs.Buffers.{Call, resourceCount, sourceBox, windowOf, paddedOf, unblocked, paddedCells, walkByte, flagByte, UsedPart, byCell, rowEnds, laneStart, LanesAre, CountIs, FieldMade}
 use Rattle.walkgraph.proofs.Lists.{placed-above}
 use Rattle.walkgraph.proofs.Intervals.{row-interval}
 use Rattle.walkgraph.proofs.Lanes.{LaneRules, lane-rules}
-use Rattle.cells.specs.Boxes.{reach, InMap}
-use Rattle.rings.specs.Rings.{AllRings}
-use Rattle.rings.proofs.Sides.{on-map}
-use Rattle.rings.proofs.Search.{all-good}
-use Rattle.rings.proofs.Sources.{ring-in-map}
+use Rattle.cells.specs.Boxes.{reach}
 use Rattle.lane.specs.Levels.{levelAt}
-use Rattle.lane.proofs.Levels.{level-one}
 use Rattle.window.specs.declared.record.Window.{Window}
 use Rattle.window.specs.Windows.{windowOver, OnMap}
 use Rattle.window.specs.Fills.{entries, zeros, AreBits}
@@ -36,10 +27,8 @@ use Rattle.window.proofs.Fills.{placed-past}
 use Rattle.walkbytes.proofs.WalkMade.{walk-made, walk-stays}
 use Rattle.flags.proofs.FlagsMade.{flags-made, flags-stay}
 use Rattle.intervals.proofs.RowsMade.{first-made, past-made, rows-stay}
-use Rattle.start.specs.Hits.{Room, firstColumn, pastColumn, rowHit, ringHit, lanesHit}
-use Rattle.startcells.specs.Hits.{startedLevels, cellsHit}
-use Rattle.startcells.proofs.Some.{some-at}
-use Rattle.start.proofs.Rooms.{cells-room}
+use Rattle.startcells.specs.Hits.{startedLevels}
+use Rattle.start.specs.Hits.{lanesHit}
 use Rattle.start.proofs.HitsAre.{hits-are}
 use Rattle.sweep.specs.Sweeps.{Run, Ended}
 use Rattle.sweep.specs.Buffers as sweep
@@ -55,30 +44,6 @@ use Rattle.make.proofs.Started.{Unpulled}
 use Rattle.make.proofs.FieldJoin.{cell-entry, row-entry, interval-of, run-stops, run-count, run-lanes}
 use Rattle.make.proofs.RunStays.{RunStays, run-stays}
 use Rattle.make.proofs.UsedParts.{used-cells, used-rows, used-zeros, unpulled-of, holds-begun}
-
--- ---- no lane past the used part starts
-module _ (w : Window) (walk rows : List ℕ) (width height : ℕ) (resources : List ℤ) (rings : AllRings width height resources) (few : length resources / 4 ≤ w .lanes)
-    (used bytes : ℕ) (room : Room w used bytes rows) where
-  ring-small : (k : ℕ) → k < length resources / 4 → InMap 1024 1024 (ringBox width height (rectangle resources k))
-  ring-small k h =
-      let i = ring-in-map width height (rectangle resources k) (on-map width height (rectangle resources k) (all-good width height resources (rings .good) k h)) in
-      record { across = i .across; wide = omega (arith, i .wide, rings .wide); along = i .along; tall = omega (arith, i .tall, rings .high) }
-
-  pub hit-used : (j : ℕ) → T (lanesHit w walk rows width height resources (length resources / 4) j) → j < used
-  unfolding lanesHit ringHit rowHit cellsHit
-  hit-used j t =
-      let a = some-at (length resources / 4) _ t in
-      let k = a .0 in
-      let ring = ringBox width height (rectangle resources k) in
-      let y₀ = max (ring .top) (w .top) in
-      let b = some-at (min (ring .bottom + 1) (w .top + w .height) - y₀) _ (a .2) in
-      let v = y₀ + b .0 in
-      let d = some-at (pastColumn w rows ring (v - w .top) - firstColumn w rows ring (v - w .top)) _ (b .2) in
-      let x = firstColumn w rows ring (v - w .top) in
-      let place = (v - w .top + 1) * (w .width + 2) + (x - w .left) in
-      let e = eqb→eq j ((place + d .0) * w .lanes + k) (and-left (eqb j ((place + d .0) * w .lanes + k)) _ (d .2)) in
-      let i = cells-room w used bytes rows ring k (v - w .top) room (ring-small k (a .1)) (omega (arith, a .1)) (omega (arith, b .1)) .lanes-in (d .0) (d .1) in
-      omega (arith, e, i)
 
 -- ---- the call
 module _ (width height : ℕ) (cells : List ℕ) (lanes : ℕ) (blockers resources : List ℤ) (t : Box) where
@@ -125,13 +90,17 @@ module _ (width height : ℕ) (cells : List ℕ) (lanes : ℕ) (blockers resourc
         (rows-stay width height (unblocked callAt) (sourceBox callAt) t lanes (entries before))
 
     -- ---- the sweeps, from the lanes that start
-    module _ (rings : AllRings width height resources) (few : length resources / 4 ≤ lanes) (count : LaneCount lanes)
+    module _ (few : length resources / 4 ≤ lanes) (count : LaneCount lanes)
         {walk₀ walk flags₀ flags rows₀ rows : List ℕ} (walk-is : UsedPart (paddedCells m) (byCell m (walkByte m)) walk₀ walk)
         (flags-are : UsedPart (paddedCells m) (byCell m (flagByte m)) flags₀ flags) (rows-are : UsedPart (2 * m .height) (rowEnds m) rows₀ rows)
         (lanes₀ started : List ℤ) (begun : levelAt started ≡ startedLevels (unreachableLevels w (levelAt lanes₀)) (lanesHit w walk rows width height resources (length resources / 4)))
         (quiet : ℕ) (above : quiet ≤ sourceBox callAt .top - windowOf callAt .top) (within : quiet ≤ m .height) where
       some : 0 < lanes
       some = ⊎-elim (λ e. omega arith) (λ e. omega arith) count
+
+      small : bias reach < 32768
+      unfolding bias
+      small = omega arith
 
       rules : LaneRules reach
       rules = lane-rules reach (omega arith) (omega arith)
@@ -183,16 +152,15 @@ module _ (width height : ℕ) (cells : List ℕ) (lanes : ℕ) (blockers resourc
                 run-count callAt some (on .sources .across) (on .targets .across) flags-are rows-are rules (omega arith) (omega arith) quiet above (runOf started v d u)
                 unpulled holds (omega (arith, z .versions-long)) (omega (arith, z .downs-long)) (omega (arith, z .ups-long)) ended
 
-            pub swept-lanes : (after : List ℤ) → q .levels ≡ levelAt after → length after ≡ length lanes₀ → ((i : ℕ) → mag (getD after i (pos 0)) < 32768) →
+            pub swept-lanes : (after : List ℤ) → q .levels ≡ levelAt after → length after ≡ length lanes₀ →
                 ((i : ℕ) → paddedCells m * lanes ≤ i → getD after i (pos 0) ≡ getD lanes₀ i (pos 0)) → LanesAre callAt lanes₀ after
             swept-lanes =
                 run-lanes callAt some (on .sources .across) (on .targets .across) flags-are rows-are rules (omega arith) (omega arith) quiet above (runOf started v d u)
-                unpulled holds (omega (arith, z .versions-long)) (omega (arith, z .downs-long)) (omega (arith, z .ups-long)) ended lanes₀
+                unpulled holds (omega (arith, z .versions-long)) (omega (arith, z .downs-long)) (omega (arith, z .ups-long)) small ended lanes₀
 
         -- what they leave is the field
-        module _ (room : Room w ((w .height + 2) * (w .width + 2) * lanes) (length walk) rows) (after : List ℤ) (versions downs ups : List ℕ) (sweeps : ℕ)
+        module _ (exact : length lanes₀ ≡ paddedCells m * lanes) (after : List ℤ) (versions downs ups : List ℕ) (sweeps : ℕ)
             (lanes-long : length after ≡ length lanes₀) (versions-long : length versions ≡ length versions₀) (downs-long : length downs ≡ length downs₀) (ups-long : length ups ≡ length ups₀)
-            (fits₀ : (i : ℕ) → mag (getD lanes₀ i (pos 0)) < 32768) (fits : (i : ℕ) → mag (getD after i (pos 0)) < 32768)
             (relaxed : Relaxed (groundOf lanes (m .width + 2) flags rows) (m .height) quiet started versions₀ downs₀ ups₀ after versions downs ups sweeps) where
           abbrev first : Run
           first = runOf started (relaxed .begun-versions) (relaxed .begun-downs) (relaxed .begun-ups)
@@ -200,21 +168,11 @@ module _ (width height : ℕ) (cells : List ℕ) (lanes : ℕ) (blockers resourc
           abbrev last : Run
           last = runOf after (relaxed .ended-versions) (relaxed .ended-downs) (relaxed .ended-ups)
 
-          stays : RunStays (groundOf lanes (m .width + 2) flags rows) (m .height) interval-last first last
-          stays = run-stays (groundOf lanes (m .width + 2) flags rows) (m .height) interval-last first last sweeps false (relaxed .ended .sweeps)
-
-          -- no lane past the used part starts or is swept
-          level-past : (i : ℕ) → paddedCells m * lanes ≤ i → levelAt after i ≡ levelAt lanes₀ i
-          unfolding paddedOf windowOf padded paddedCells startedLevels
-          level-past i h =
-              let hit = lanesHit w walk rows width height resources (length resources / 4) in
-              let unhit : hit i ≡ false = T-false (hit i) (not-T (hit i) (λ t. omega (arith, hit-used w walk rows width height resources rings few _ (length walk) room i t))) in
-              stays .levels i h
-              ∙ ap (λ (f : ℕ → ℕ). f i) begun
-              ∙ rw unhit (placed-past (levelAt lanes₀) ((w .height + 2) * (w .width + 2) * lanes) (λ (k : ℕ). 65535) i h)
+          stays : RunStays (groundOf lanes (m .width + 2) flags rows) (m .height) first last
+          stays = run-stays (groundOf lanes (m .width + 2) flags rows) (m .height) first last sweeps false (relaxed .ended .sweeps)
 
           lane-past : (i : ℕ) → paddedCells m * lanes ≤ i → getD after i (pos 0) ≡ getD lanes₀ i (pos 0)
-          lane-past i h = level-one _ _ (fits i) (fits₀ i) (level-past i h)
+          lane-past i h = List·getD-eq-default after (pos 0) (omega arith) ∙ sym (List·getD-eq-default lanes₀ (pos 0) (omega arith))
 
           versions-stay : (j : ℕ) → m .height + 2 ≤ j → getD (relaxed .ended-versions) j 0 ≡ getD versions₀ j 0
           versions-stay j h = stays .versions .stay j h ∙ ap (λ (f : ℕ → ℕ). f j) (relaxed .begun .made .version) ∙ placed-past (entries versions₀) (m .height + 2) zeros j h
@@ -235,7 +193,7 @@ module _ (width height : ℕ) (cells : List ℕ) (lanes : ℕ) (blockers resourc
           field-made =
               let z = relaxed .begun in
               record {
-                lanes = swept-lanes _ _ _ z (relaxed .ended) after refl lanes-long fits lane-past;
+                lanes = swept-lanes _ _ _ z (relaxed .ended) after refl lanes-long lane-past;
                 walk = walk-is;
                 flags = flags-are;
                 rows = rows-are;

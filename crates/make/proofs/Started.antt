@@ -1,24 +1,22 @@
 -- Before the first sweep: the buffers hold the start tables, and rows above the sources count as having pulled version 0, which would change nothing.
-use mathlib.Core.Path.{_≡_, refl, sym, _∙_, ap}
-use mathlib.Core.Logic.{_≢_, _⊎_, inl, inr, ⊎-elim}
-use mathlib.Core.Bool.{Bool, true, false, cond}
+use mathlib.Core.Path.{_≡_, refl, _∙_, ap}
+use mathlib.Core.Logic.{_⊎_, inl, inr}
+use mathlib.Core.Bool.{Bool, true}
 use mathlib.Core.List.{List, []}
-use Prim.Native.Nat.{ℕ, zero, suc, _+_, _-_, _*_, _≤_, _<_}
+use Prim.Native.Nat.{ℕ, zero, suc, _+_, _-_, _≤_, _<_}
 use native.Mathlib.Omega.{arith}
 use native.Mathlib.Decide.{decLe}
-use lib.ListN.{getD, length}
+use lib.ListN.{getD}
 use lib.Dec.{T, not-T}
-use Rattle.walkgraph.specs.Lists.{tabulate}
 use Rattle.walkgraph.specs.Lanes.{unreachable}
-use Rattle.walkgraph.specs.Sweep.{PaddedWindow, Direction, down, up, written, readRow, valueAt, starts, startTable}
+use Rattle.walkgraph.specs.Sweep.{PaddedWindow, Direction, down, up, readRow, valueAt, starts}
 use Rattle.walkgraph.specs.Buffers.{Call, paddedOf, windowOf, sourceBox, startsLane, laneStart}
 use Rattle.walkgraph.proofs.Tests.{by-cases, cond-false}
-use Rattle.walkgraph.proofs.Sweeps.{PaddingShut, written-in, Sound}
+use Rattle.walkgraph.proofs.Sweeps.{written-in}
 use Rattle.walkgraph.proofs.Count.{starts-written, started-ind}
 use Rattle.walkgraph.proofs.RelaxedRow.{RowQuiet}
-use Rattle.walkgraph.proofs.Skipping.{Feeds, Fresh, fresh-start}
+use Rattle.walkgraph.proofs.Skipping.{Feeds, fresh-start}
 use Rattle.walkgraph.proofs.FieldCall.{shut, sources-in, lane-sound}
-use Rattle.plainsweeps.proofs.Columns.{slot}
 use Rattle.plainsweeps.proofs.RowLevels.{Holds}
 use Rattle.plainsweeps.proofs.Turn.{versionAt, version-in, version-out, pulledAt, pulled-in, pulled-out, pullOf, never}
 use Rattle.plainsweeps.proofs.SweepLevels.{Kept}

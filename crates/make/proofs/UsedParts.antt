@@ -1,8 +1,8 @@
 -- From the fills of a field call to document 01's words on its buffers: used parts, the lanes before the first sweep, and the versions.
-use mathlib.Core.Path.{_≡_, refl, sym, _∙_, ap}
+use mathlib.Core.Path.{_≡_, _∙_, ap}
 use mathlib.Core.Bool.{Bool, true, false, cond}
 use mathlib.Core.List.{List, []}
-use Prim.Native.Nat.{ℕ, suc, _+_, _-_, _*_, _/_, _%_, _≤_, _<_}
+use Prim.Native.Nat.{ℕ, _+_, _-_, _*_, _/_, _%_, _≤_, _<_}
 use native.Mathlib.Nat.{div-add-mod', div-lt-iff-lt-mul, mod-lt}
 use native.Mathlib.Decide.{ℕ-discrete}
 use native.Mathlib.Omega.{arith}
@@ -11,7 +11,7 @@ use lib.Arith.{digits-lt}
 use borrow.Author.Tests.{eq-eqb, ne-eqb}
 use Rattle.walkgraph.specs.Lists.{placed, tabulate}
 use Rattle.walkgraph.specs.Lanes.{unreachable}
-use Rattle.walkgraph.specs.Sweep.{PaddedWindow, readRow, starts, startTable}
+use Rattle.walkgraph.specs.Sweep.{PaddedWindow, starts, startTable}
 use Rattle.walkgraph.specs.Buffers.{Call, paddedOf, windowOf, startsLane, laneStart, cellPlace, paddedCells, rowFirst, rowPast, UsedPart, byCell, rowEnds}
 use Rattle.walkgraph.proofs.Tests.{by-cases}
 use Rattle.walkgraph.proofs.Lists.{getD-tabulate, placed-in, placed-below}
