@@ -1,2 +1,3 @@
--- The laws of reading a cell.
+-- The field call's promise from its plan, and the laws of reading a cell.
+pub mod Calls
 pub mod Parts

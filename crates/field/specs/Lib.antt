@@ -1,2 +1,3 @@
--- Parts of the lent lanes.
+-- The field call's answer, and parts of the lent lanes.
+pub mod Answers
 pub mod Parts

@@ -1,2 +1,3 @@
 // The field call, and reading a cell.
+pub mod call;
 pub mod read;

@@ -2,7 +2,7 @@
 use mathlib.Core.Path.{_≡_, sym}
 use mathlib.Core.Bool.{not, _&&_, and-assoc, Bool·not-not}
 use mathlib.Core.List.{List, [], _∷_}
-use Prim.Native.Nat.{ℕ, _+_, _*_, _≤_, _<_, max}
+use Prim.Native.Nat.{ℕ, zero, suc, _+_, _*_, _≤_, _<_, max}
 use native.Mathlib.Omega.{arith}
 use native.Mathlib.Decide.{decLe}
 use native.Mathlib.Numerals.{add-one}
@@ -23,6 +23,13 @@ module _ (cells : List ℕ) (high k : ℕ) where
   pub all-passed : length cells ≤ k → max high (greatest (drop k cells)) ≡ high
   unfolding greatest
   all-passed i = rw (drop-of-length-le cells i) (omega arith)
+
+-- no byte is above it
+pub entry-least : (cells : List ℕ) (k : ℕ) → getD cells k 0 ≤ greatest cells
+unfolding greatest
+entry-least [] k = omega arith
+entry-least (b ∷ l) zero = omega arith
+entry-least (b ∷ l) (suc k) = omega (arith, entry-least l k)
 
 -- the greatest is small exactly where every byte is
 all-small : (n : ℕ) (cells : List ℕ) → all (λ byte. leb byte n) cells ≡ leb (greatest cells) n

@@ -1,7 +1,7 @@
 -- The field of a site made: what its ground, its start and its sweeps leave, by the window that the code has.
 use mathlib.Core.Path.{_≡_, sym, _∙_, ap, subst}
 use mathlib.Core.List.{List, _++_}
-use Prim.Native.Nat.{ℕ, _+_, _-_, _*_, _/_, _≤_, _<_, min}
+use Prim.Native.Nat.{ℕ, _+_, _-_, _*_, _/_, _≤_, _<_}
 use native.Mathlib.Omega.{arith}
 use lib.ListN.{getD, length, take, drop, List·getD-append}
 use lib.Seq.{length-take-le, length-front, getD-append-add, getD-drop}

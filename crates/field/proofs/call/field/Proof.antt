@@ -1,0 +1,140 @@
+-- `field::call::field`: what the plan says of the call, and what is made of it.
+use mathlib.Core.Path.{_≡_, refl, subst}
+use mathlib.Core.Logic.{_⊎_, ⊎-elim}
+use native.Mathlib.Omega.{arith}
+use lib.ListN.{length}
+use denote.Ref.{now}
+use denote.Enum.Declared.{tagOf}
+use mir.Syntax.{w32}
+use mir.ValLaws.{toZ-ofZ}
+use borrow.Author.Needs.{needs}
+use Rattle.walkgraph.specs.Buffers.{Lent}
+use Rattle.walkgraph.specs.Refusals.{FieldInput}
+use Rattle.walkgraph.specs.Promise.{made}
+use Rattle.rings.specs.Rings.{corners}
+use Rattle.plan.proofs.Plan.{the-type}
+use Rattle.plan.specs.declared.Lent as plan
+use Rattle.plan.specs.declared.Plan.{Plan}
+use Rattle.plan.specs.declared.Plan.the-variants.{Refused, Nothing, Make}
+use Rattle.plan.specs.Plans.{inputOf, Lengths, PlanOf}
+use Rattle.make.specs.Makes.{lent}
+use Rattle.field.specs.Answers.{answerOf}
+use Rattle.field.proofs.Calls.{call-refused, call-nothing, make-fits, call-made}
+use Rattle.field.proofs.call.field.Statement.{statement}
+use Rattle.field.proofs.call.field.Tie as tie
+
+-- what the call is given
+abbrev input : tie.Start → FieldInput
+input b =
+    let a = b .args in
+    inputOf (a .width) (a .height) (now (a .cells)) (a .lanes) (now (a .blockers)) (now (a .resources)) (corners (a .left) (a .top) (a .right) (a .bottom))
+
+abbrev before : tie.Start → Lent
+before b =
+    let a = b .args in
+    lent (now (a .lane-values)) (now (a .walk)) (now (a .flags)) (now (a .rows)) (now (a .versions)) (now (a .pulled-down)) (now (a .pulled-up))
+
+abbrev lengths : tie.Start → plan.Lent
+lengths b =
+    let l = before b in
+    record {
+      lanes = length (l .lanes);
+      walk = length (l .walk);
+      flags = length (l .flags);
+      rows = length (l .rows);
+      versions = length (l .versions);
+      «pulled_down» = length (l .pulledDown);
+      «pulled_up» = length (l .pulledUp);
+    }
+
+same-lengths : (b : tie.Start) → Lengths (lengths b) (before b)
+same-lengths b = record { lanes = refl; walk = refl; flags = refl; rows = refl; versions = refl; down = refl; up = refl }
+
+-- the plan of the target box as it was given, not as it is read from its bits
+planned : (c : tie.After-plan-of) → PlanOf (input (c .before .before .before .before .before .before .before .before)) (lengths (c .before .before .before .before .before .before .before .before)) (c .plan-of .result)
+planned c =
+    let b = c .before .before .before .before .before .before .before .before in
+    rw (toZ-ofZ w32 (b .args .left) (b .fits .left), toZ-ofZ w32 (b .args .top) (b .fits .top), toZ-ofZ w32 (b .args .right) (b .fits .right), toZ-ofZ w32 (b .args .bottom) (b .fits .bottom)) at (c .plan-of .ensures)
+
+-- a plan that neither refuses nor makes
+neither : (p : Plan) → (tagOf the-type p ≡ 1) ⊎ (tagOf the-type p ≡ 2) → (tagOf the-type p ≡ 0) ⊎ (tagOf the-type p ≡ 1) → p ≡ Nothing
+neither (Refused number place) a b = absurd (⊎-elim (λ e. omega (arith, e)) (λ e. omega (arith, e)) a)
+neither Nothing a b = refl
+neither (Make s) a b = absurd (⊎-elim (λ e. omega (arith, e)) (λ e. omega (arith, e)) b)
+
+plan-of-requires : tie.Need-plan-of-requires
+plan-of-requires c κs = search needs
+
+enum-known-found : tie.Need-enum-known-found
+enum-known-found c = search needs
+
+returns : tie.Need-returns
+unfolding answerOf
+returns c =
+    let b = c .before .before .before .before .before .before .before .before .before .before .before in
+    call-refused (input b) (lengths b) (before b) (same-lengths b) (rw (c .before .found .given .1) at (planned (c .before .before .before)))
+
+enum-known-found-2 : tie.Need-enum-known-found-2
+enum-known-found-2 c = search needs
+
+nothing-requires : tie.Need-nothing-requires
+nothing-requires c κs = search needs
+
+returns-2 : tie.Need-returns-2
+unfolding answerOf
+returns-2 c =
+    let b = c .before .before .before .before .before .before .before .before .before .before .before in
+    let p = subst (PlanOf (input b) (lengths b)) (neither _ (c .before .before .match .keys2) (c .before .match2 .keys2)) (planned (c .before .before .before)) in
+    rw (c .nothing .ensures) (call-nothing (input b) (lengths b) (before b) (same-lengths b) p)
+
+make-requires : tie.Need-make-requires
+make-requires c κs =
+    let b = c .before .before .before .before .before .before .before .before .before .before .before .before .before .before .before .before .before .before .before .before in
+    make-fits (input b) (lengths b) (before b) (same-lengths b) _ (rw (c .before .before .before .before .before .before .before .before .before .found2 .given .1) at (planned (c .before .before .before .before .before .before .before .before .before .before .before .before)))
+
+same-length : tie.Need-same-length
+same-length c = search needs
+
+same-length-2 : tie.Need-same-length-2
+same-length-2 c = search needs
+
+same-length-3 : tie.Need-same-length-3
+same-length-3 c = search needs
+
+same-length-4 : tie.Need-same-length-4
+same-length-4 c = search needs
+
+same-length-5 : tie.Need-same-length-5
+same-length-5 c = search needs
+
+same-length-6 : tie.Need-same-length-6
+same-length-6 c = search needs
+
+same-length-7 : tie.Need-same-length-7
+same-length-7 c = search needs
+
+returns-3 : tie.Need-returns-3
+unfolding answerOf
+returns-3 c =
+    let b = c .before .before .before .before .before .before .before .before .before .before .before .before .before .before .before .before .before .before .before .before .before .before .before .before .before .before .before .before .before .before .before .before .before .before in
+    call-made (input b) (lengths b) (before b) (same-lengths b) _ (rw (c .before .before .before .before .before .before .before .before .before .before .before .before .before .before .before .before .before .before .before .before .before .before .before .found2 .given .1) at (planned (c .before .before .before .before .before .before .before .before .before .before .before .before .before .before .before .before .before .before .before .before .before .before .before .before .before .before))) (c .before .before .before .before .before .before .before .before .before .before .before .before .before .make .ensures)
+
+pub field-spec : {M : Type 1} → statement M
+field-spec =
+    tie.close
+    (tie.spec
+    plan-of-requires
+    enum-known-found
+    returns
+    enum-known-found-2
+    nothing-requires
+    returns-2
+    make-requires
+    same-length
+    same-length-2
+    same-length-3
+    same-length-4
+    same-length-5
+    same-length-6
+    same-length-7
+    returns-3)
