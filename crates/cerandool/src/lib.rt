@@ -1,0 +1,140 @@
+// The static library's exports, for C and for Rust: the field call, and reading a cell. Neither requires anything of what it is given.
+use field::call;
+use field::call::Answer;
+use field::read;
+use window::record;
+use window::record::Window;
+
+// What a field call leads to. Where it is accepted, number and place are 0, and the window with its lanes and the
+// sweep count follow. Where it is refused, number and place are the table's, and the rest is 0.
+#[repr(C)]
+pub struct FieldAnswer {
+    pub number: u32,
+    pub place: u32,
+    pub left: u32,
+    pub top: u32,
+    pub width: u32,
+    pub height: u32,
+    pub lanes: u32,
+    pub sweeps: u32,
+}
+
+// The part of the lent lanes that belongs to a cell: where it starts, and how long it is. Both are 0 for a cell outside.
+#[repr(C)]
+pub struct Part {
+    pub start: usize,
+    pub length: usize,
+}
+
+// The answer to a refused call.
+fn refused(number: u32, place: u32) -> FieldAnswer {
+    FieldAnswer {
+        number,
+        place,
+        left: 0,
+        top: 0,
+        width: 0,
+        height: 0,
+        lanes: 0,
+        sweeps: 0,
+    }
+}
+
+// The answer to an accepted call.
+fn made(window: Window, sweeps: usize) -> FieldAnswer {
+    FieldAnswer {
+        number: 0,
+        place: 0,
+        left: window.left as u32,
+        top: window.top as u32,
+        width: window.width as u32,
+        height: window.height as u32,
+        lanes: window.lanes as u32,
+        sweeps: sweeps as u32,
+    }
+}
+
+// The field of resources around a target box, on a map of walk cells painted with blockers.
+#[no_mangle]
+pub extern "C" fn cerandool_field(
+    width: u32,
+    height: u32,
+    cells: &[u8],
+    lanes: u32,
+    blockers: &[i32],
+    resources: &[i32],
+    left: i32,
+    top: i32,
+    right: i32,
+    bottom: i32,
+    lane_values: &mut [i16],
+    walk: &mut [u8],
+    flags: &mut [u8],
+    rows: &mut [u16],
+    versions: &mut [u32],
+    pulled_down: &mut [u32],
+    pulled_up: &mut [u32],
+) -> FieldAnswer {
+    let answer = call::field(
+        width,
+        height,
+        cells,
+        lanes,
+        blockers,
+        resources,
+        left,
+        top,
+        right,
+        bottom,
+        lane_values,
+        walk,
+        flags,
+        rows,
+        versions,
+        pulled_down,
+        pulled_up,
+    );
+    match answer {
+        Answer::Refused { number, place } => refused(number, place),
+        Answer::Made { window, sweeps } => made(window, sweeps),
+    }
+}
+
+// Where the lanes of the map's cell (x, y) start, for a cell of the window.
+fn start_of(window: Window, x: usize, y: usize) -> usize {
+    let row = y - window.top + 1;
+    let column = x - window.left + 1;
+    (row * record::stride(window) + column) * window.lanes
+}
+
+// The part of the lent lanes that belongs to the map's cell (x, y), by a window record that the caller may have made up.
+#[no_mangle]
+pub extern "C" fn cerandool_at(
+    left: u32,
+    top: u32,
+    width: u32,
+    height: u32,
+    lanes: u32,
+    lane_values: &[i16],
+    x: u32,
+    y: u32,
+) -> Part {
+    let window = Window {
+        left: left as usize,
+        top: top as usize,
+        width: width as usize,
+        height: height as usize,
+        lanes: lanes as usize,
+    };
+    let length = read::at(window, lane_values, x, y).len();
+    if length == 0 {
+        return Part {
+            start: 0,
+            length: 0,
+        };
+    }
+    Part {
+        start: start_of(window, x as usize, y as usize),
+        length,
+    }
+}
