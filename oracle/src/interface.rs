@@ -1,5 +1,5 @@
-//! Document 01's calls as plain data: what goes in, what comes out, and the trait of an engine that
-//! answers. A second implementation stands behind the same trait.
+//! Document 01's calls as plain data: what goes in, what comes out, and the traits of an engine that
+//! answers and can be timed. A second implementation stands behind the same traits.
 
 use std::fmt;
 
@@ -87,12 +87,21 @@ impl AccessLists {
     }
 }
 
-/// Answers accepted calls. What document 01 refuses is not asked.
-pub trait Engine {
+/// One call whose inputs are laid out as the engine wants them, to be run again and again.
+pub type Run<'a> = Box<dyn FnMut() + 'a>;
+
+/// Answers accepted field calls. What document 01 refuses is not asked.
+pub trait FieldEngine {
     fn name(&self) -> &str;
 
     fn field(&self, call: &FieldCall) -> Field;
 
+    /// The field call to be timed: laying out its inputs is not part of a run.
+    fn field_run<'a>(&'a self, call: &'a FieldCall) -> Run<'a>;
+}
+
+/// Answers all of document 01's accepted calls: access cells and fields of resources too.
+pub trait Engine: FieldEngine {
     /// The walkable ring cells of a rectangle, as indices by row, then column.
     fn access_cells(&self, map: &Map, rectangle: Rectangle) -> Vec<u32>;
 
@@ -101,18 +110,11 @@ pub trait Engine {
 
     /// One field number per resource.
     fn fields(&self, map: &Map, access: &AccessLists) -> Vec<u16>;
-}
 
-/// One call whose inputs are laid out as the engine wants them, to be run again and again.
-pub type Run<'a> = Box<dyn FnMut() + 'a>;
-
-/// An engine that can be timed: laying out the inputs is not part of a run.
-pub trait TimedEngine: Engine {
-    fn field_run<'a>(&'a self, call: &'a FieldCall) -> Run<'a>;
-
-    /// The access cells of all resources.
+    /// The access cells of all resources, to be timed.
     fn access_run<'a>(&'a self, map: &'a Map, resources: &'a [Rectangle]) -> Run<'a>;
 
+    /// The fields of resources, to be timed.
     fn fields_run<'a>(&'a self, map: &'a Map, access: &'a AccessLists) -> Run<'a>;
 }
 

@@ -7,12 +7,20 @@
 use std::env;
 use std::time::{Duration, Instant};
 
+use beside::Cerandool;
 use oracle::UnchangedRust;
-use oracle::interface::{AccessLists, Engine, Field, FieldCall, Map, Rectangle, Run, TimedEngine};
+use oracle::interface::{AccessLists, Engine, Field, FieldCall, FieldEngine, Map, Rectangle, Run};
 use oracle::maps;
 
 const REPETITIONS: u32 = 100;
 
+/// The engines that answer field calls.
+const FIELD_ENGINES: [&dyn FieldEngine; 2] = [&UnchangedRust, &Cerandool];
+
+/// The engines that answer the other calls too.
+const ENGINES: [&dyn Engine; 1] = [&UnchangedRust];
+
+/// A call that every engine answers which has it.
 enum Work {
     Field(FieldCall),
     Access(Map, Vec<Rectangle>),
@@ -26,20 +34,40 @@ enum Answer {
     Fields(Vec<u16>),
 }
 
-impl Work {
-    fn run<'a>(&'a self, engine: &'a dyn TimedEngine) -> Run<'a> {
-        match self {
-            Work::Field(call) => engine.field_run(call),
-            Work::Access(map, resources) => engine.access_run(map, resources),
-            Work::Fields(map, access) => engine.fields_run(map, access),
-        }
-    }
+/// One engine's part in a work: its answer, and its run.
+struct Entry<'a> {
+    engine: &'a str,
+    answer: Answer,
+    run: Run<'a>,
+}
 
-    fn answer(&self, engine: &dyn TimedEngine) -> Answer {
+impl Work {
+    fn entries(&self) -> Vec<Entry<'_>> {
         match self {
-            Work::Field(call) => Answer::Field(engine.field(call)),
-            Work::Access(map, resources) => Answer::Access(engine.access_lists(map, resources)),
-            Work::Fields(map, access) => Answer::Fields(engine.fields(map, access)),
+            Work::Field(call) => FIELD_ENGINES
+                .iter()
+                .map(|engine| Entry {
+                    engine: engine.name(),
+                    answer: Answer::Field(engine.field(call)),
+                    run: engine.field_run(call),
+                })
+                .collect(),
+            Work::Access(map, resources) => ENGINES
+                .iter()
+                .map(|engine| Entry {
+                    engine: engine.name(),
+                    answer: Answer::Access(engine.access_lists(map, resources)),
+                    run: engine.access_run(map, resources),
+                })
+                .collect(),
+            Work::Fields(map, access) => ENGINES
+                .iter()
+                .map(|engine| Entry {
+                    engine: engine.name(),
+                    answer: Answer::Fields(engine.fields(map, access)),
+                    run: engine.fields_run(map, access),
+                })
+                .collect(),
         }
     }
 }
@@ -114,14 +142,13 @@ fn works() -> Vec<(String, Work)> {
     works
 }
 
-/// The least time of each engine, the engines running in turn.
-fn least_times(work: &Work, engines: &[&dyn TimedEngine], repetitions: u32) -> Vec<Duration> {
-    let mut runs: Vec<Run> = engines.iter().map(|&engine| work.run(engine)).collect();
-    let mut least = vec![Duration::MAX; engines.len()];
+/// The least time of each entry, the entries running in turn.
+fn least_times(entries: &mut [Entry], repetitions: u32) -> Vec<Duration> {
+    let mut least = vec![Duration::MAX; entries.len()];
     for _ in 0..repetitions {
-        for (run, least) in runs.iter_mut().zip(&mut least) {
+        for (entry, least) in entries.iter_mut().zip(&mut least) {
             let start = Instant::now();
-            run();
+            (entry.run)();
             *least = start.elapsed().min(*least);
         }
     }
@@ -133,26 +160,25 @@ fn main() {
         None => REPETITIONS,
         Some(text) => text.parse().expect("usage: bench [REPETITIONS]"),
     };
-    let engines: [&dyn TimedEngine; 1] = [&UnchangedRust];
     println!("least of {repetitions} repetitions, in milliseconds");
     for (name, work) in works() {
-        let answer = work.answer(engines[0]);
-        for engine in &engines[1..] {
+        let mut entries = work.entries();
+        for entry in &entries[1..] {
             assert!(
-                work.answer(*engine) == answer,
+                entry.answer == entries[0].answer,
                 "{name}: {} differs from {}",
-                engine.name(),
-                engines[0].name()
+                entry.engine,
+                entries[0].engine
             );
         }
-        let times = least_times(&work, &engines, repetitions);
-        print!("{name:44} {:32}", answer.summary());
-        for (engine, time) in engines.iter().zip(&times) {
-            print!(" {} {:9.3}", engine.name(), time.as_secs_f64() * 1_000.0);
+        let times = least_times(&mut entries, repetitions);
+        print!("{name:44} {:32}", entries[0].answer.summary());
+        for (entry, time) in entries.iter().zip(&times) {
+            print!(" {} {:9.3}", entry.engine, time.as_secs_f64() * 1_000.0);
         }
-        for (engine, time) in engines.iter().zip(&times).skip(1) {
+        for (entry, time) in entries.iter().zip(&times).skip(1) {
             let ratio = time.as_secs_f64() / times[0].as_secs_f64();
-            print!(" {} / {} {ratio:.2}", engine.name(), engines[0].name());
+            print!(" {} / {} {ratio:.2}", entry.engine, entries[0].engine);
         }
         println!();
     }
