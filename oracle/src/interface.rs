@@ -2,6 +2,7 @@
 //! answers and can be timed. A second implementation stands behind the same traits.
 
 use std::fmt;
+use std::ops::Range;
 
 /// Left, top, right, bottom in pixels, right and bottom exclusive.
 pub type Rectangle = [i32; 4];
@@ -50,8 +51,8 @@ pub struct Field {
 }
 
 impl Field {
-    /// The lanes of a cell, or `None` for a cell that is not in the window.
-    pub fn reading(&self, x: u32, y: u32) -> Option<&[i16]> {
+    /// The part of `lanes` that belongs to a cell, or `None` for a cell that is not in the window.
+    pub fn part(&self, x: u32, y: u32) -> Option<Range<usize>> {
         let column = x.checked_sub(self.window.left)?;
         let row = y.checked_sub(self.window.top)?;
         if column >= self.window.width || row >= self.window.height {
@@ -59,7 +60,12 @@ impl Field {
         }
         let stride = self.window.width as usize + 2;
         let index = (row as usize + 1) * stride + column as usize + 1;
-        Some(&self.lanes[index * self.lane_count..(index + 1) * self.lane_count])
+        Some(index * self.lane_count..(index + 1) * self.lane_count)
+    }
+
+    /// The lanes of a cell, or `None` for a cell that is not in the window.
+    pub fn reading(&self, x: u32, y: u32) -> Option<&[i16]> {
+        self.part(x, y).map(|part| &self.lanes[part])
     }
 }
 

@@ -14,12 +14,13 @@ impl Random {
             state: seed.wrapping_mul(0x9E37_79B9_7F4A_7C15) | 1,
         };
         for _ in 0..16 {
-            random.next();
+            random.bits();
         }
         random
     }
 
-    fn next(&mut self) -> u64 {
+    /// Any number of 64 bits but 0.
+    pub fn bits(&mut self) -> u64 {
         self.state ^= self.state << 13;
         self.state ^= self.state >> 7;
         self.state ^= self.state << 17;
@@ -28,7 +29,22 @@ impl Random {
 
     /// A number from 0 up to but not including `end`.
     pub fn below(&mut self, end: u32) -> u32 {
-        (((self.next() >> 32) * u64::from(end)) >> 32) as u32
+        (((self.bits() >> 32) * u64::from(end)) >> 32) as u32
+    }
+
+    /// A number from `low` to `high`, both included.
+    pub fn between(&mut self, low: i32, high: i32) -> i32 {
+        low + self.below((high - low + 1) as u32) as i32
+    }
+
+    /// True with a chance of so many percent.
+    pub fn chance(&mut self, percent: u32) -> bool {
+        self.below(100) < percent
+    }
+
+    /// One of several, which are not none.
+    pub fn pick<T: Copy>(&mut self, several: &[T]) -> T {
+        several[self.below(several.len() as u32) as usize]
     }
 }
 
@@ -75,6 +91,81 @@ pub fn zigzag_comb(width: u32, height: u32) -> Map {
         0 => x % 4 != 1,
         1 => x % 4 != 3,
         _ => x == if y / 3 % 2 == 0 { width - 1 } else { 0 },
+    })
+}
+
+/// Corridors one cell wide. The cells of even columns and rows are open; the walls between them are
+/// open where a random walk went that turned back at each dead end, and each other one with the
+/// chance of loops.
+pub fn maze(width: u32, height: u32, loops_percent: u32, seed: u64) -> Map {
+    let mut random = Random::new(seed);
+    let mut map = map_of(width, height, |x, y| {
+        let walls = x % 2 + y % 2;
+        walls == 0 || walls == 1 && random.chance(loops_percent)
+    });
+    let index = |x: u32, y: u32| (y * width + x) as usize;
+    let mut visited = vec![false; map.cells.len()];
+    let mut path: Vec<(u32, u32)> = vec![(0, 0)];
+    visited[0] = true;
+    while let Some(&(x, y)) = path.last() {
+        let steps = [
+            (x.checked_sub(2), Some(y)),
+            (x.checked_add(2).filter(|&x| x < width), Some(y)),
+            (Some(x), y.checked_sub(2)),
+            (Some(x), y.checked_add(2).filter(|&y| y < height)),
+        ];
+        let unvisited: Vec<(u32, u32)> = steps
+            .into_iter()
+            .filter_map(|(x, y)| x.zip(y))
+            .filter(|&(x, y)| !visited[index(x, y)])
+            .collect();
+        if unvisited.is_empty() {
+            path.pop();
+            continue;
+        }
+        let next = random.pick(&unvisited);
+        visited[index(next.0, next.1)] = true;
+        map.cells[index(u32::midpoint(x, next.0), u32::midpoint(y, next.1))] = 1;
+        path.push(next);
+    }
+    map
+}
+
+/// Open, but for walls along the map's border, each cell of which is open with the same chance.
+pub fn bordered(width: u32, height: u32, open_percent: u32, seed: u64) -> Map {
+    let mut random = Random::new(seed);
+    map_of(width, height, |x, y| {
+        let border = x == 0 || y == 0 || x == width - 1 || y == height - 1;
+        !border || random.chance(open_percent)
+    })
+}
+
+/// Open, but for rectangles of wall at random places, none longer than a quarter of a side or four cells.
+pub fn wall_blocks(width: u32, height: u32, count: u32, seed: u64) -> Map {
+    let mut random = Random::new(seed);
+    let mut map = open(width, height);
+    for _ in 0..count {
+        let (left, top) = (random.below(width), random.below(height));
+        let right = (left + 1 + random.below(width.div_ceil(4).max(4))).min(width);
+        let bottom = (top + 1 + random.below(height.div_ceil(4).max(4))).min(height);
+        for y in top..bottom {
+            map.cells[(y * width + left) as usize..(y * width + right) as usize].fill(0);
+        }
+    }
+    map
+}
+
+/// The map with its columns in the opposite order.
+pub fn mirrored(map: &Map) -> Map {
+    map_of(map.width, map.height, |x, y| {
+        map.cells[(y * map.width + map.width - 1 - x) as usize] == 1
+    })
+}
+
+/// The map with its columns as rows.
+pub fn transposed(map: &Map) -> Map {
+    map_of(map.height, map.width, |x, y| {
+        map.cells[(x * map.width + y) as usize] == 1
     })
 }
 

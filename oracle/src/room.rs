@@ -1,8 +1,10 @@
-//! Reads room texts and case files.
+//! Reads room texts and case files, and writes a case.
 //!
 //! A case file is a sequence of cases: a line `case NAME LANES`, then a room text in document 01's
 //! form. Its rooms may be larger than the program's limits (refusal 10); the text's form (9) and the
 //! field call's own refusals (1 to 6) are judged as document 01 says.
+
+use std::fmt::Write;
 
 use crate::interface::{FieldCall, Map, Refusal};
 
@@ -15,6 +17,32 @@ impl Case {
     /// The line that stands above a case's room text, and above its answer.
     pub fn head(&self) -> String {
         format!("case {} {}\n", self.name, self.call.lanes)
+    }
+
+    /// The case as a case file has it.
+    pub fn text(&self) -> String {
+        let mut text = self.head();
+        let mut line = |content: String| writeln!(text, "{content}").expect("a string takes it");
+        let map = &self.call.map;
+        line(map.height.to_string());
+        for row in map.cells.chunks(map.width as usize) {
+            line(
+                row.iter()
+                    .map(|&cell| if cell == 1 { '.' } else { '#' })
+                    .collect(),
+            );
+        }
+        for fours in [
+            &self.call.blockers,
+            &self.call.resources,
+            &vec![self.call.targets],
+        ] {
+            line(fours.len().to_string());
+            for [left, top, right, bottom] in fours {
+                line(format!("{left} {top} {right} {bottom}"));
+            }
+        }
+        text
     }
 }
 
@@ -180,6 +208,12 @@ mod tests {
                 targets: [0, 0, 2, 1],
             }
         );
+    }
+
+    #[test]
+    fn a_case_is_written_as_it_was_read() {
+        let text = format!("case room 16\n{ROOM}");
+        assert_eq!(read_cases(&text).unwrap()[0].text(), text);
     }
 
     #[test]

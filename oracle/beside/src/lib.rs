@@ -1,8 +1,13 @@
-//! The proved library behind the oracle's interface.
+//! The library of `crates/cerandool` behind the oracle's interface, and its comparison with the
+//! unchanged Rust.
 //!
 //! - [`library`]: the library's exports as safe calls
 //! - [`Cerandool`]: the engine that is the library
+//! - [`cases`], [`comparison`]: random calls, and what is compared, on them and on damaged ones
 
+pub mod cases;
+pub mod comparison;
+mod damage;
 mod engine;
 pub mod library;
 

@@ -1,0 +1,346 @@
+//! Compares the library with the unchanged Rust on an accepted call, and with the table of document
+//! 01 on inputs that must be refused. A difference is an error in words.
+
+use std::fmt::Debug;
+
+use oracle::UnchangedRust;
+use oracle::interface::{Field, FieldCall, FieldEngine, Refusal, Window};
+use oracle::maps::Random;
+
+use crate::cases::MOST_BLOCKERS;
+use crate::damage::damage;
+use crate::library::{self, Buffers, FieldAnswer, Input, Lengths, Part};
+
+/// What was compared.
+#[derive(Default)]
+pub struct Tally {
+    pub calls_with_16_lanes: u64,
+    pub calls_without_resources: u64,
+    pub calls_with_most_blockers: u64,
+    /// Calls with resources in whose window no cell is inside.
+    pub calls_without_inside_cells: u64,
+    pub most_sweeps: u32,
+    /// Cells of a map, and past its border, that were read.
+    pub readings: u64,
+    /// Readings by a window record that was made up.
+    pub made_up_readings: u64,
+    /// Refused inputs by their number; the first entry is not used.
+    pub refusals: [u64; 8],
+}
+
+impl Tally {
+    fn count(&mut self, call: &FieldCall, field: &Field) {
+        let no_resources = call.resources.is_empty();
+        let mut rows = field.row_intervals.chunks(2);
+        let no_inside_cells = !no_resources && rows.all(|row| row[0] == row[1]);
+        self.calls_with_16_lanes += u64::from(call.lanes == 16);
+        self.calls_without_resources += u64::from(no_resources);
+        self.calls_with_most_blockers += u64::from(call.blockers.len() == MOST_BLOCKERS);
+        self.calls_without_inside_cells += u64::from(no_inside_cells);
+        self.most_sweeps = self.most_sweeps.max(field.sweeps);
+    }
+}
+
+/// Compares everything about one call.
+pub fn compare(call: &FieldCall, random: &mut Random, tally: &mut Tally) -> Result<(), String> {
+    let expected = UnchangedRust.field(call);
+    tally.count(call, &expected);
+    let used = used_lengths(call, &expected);
+    let untouched = random_buffers(used, random);
+
+    compare_refusals(call, &untouched, used, random, tally)?;
+
+    let mut buffers = untouched.clone();
+    let answer = library::field(&Input::from(call), &mut buffers);
+    equal("the answer", &accepted_answer(call, &expected), &answer)?;
+    compare_buffers(&expected, &untouched, &buffers, used)?;
+    compare_readings(call, &expected, &buffers.lanes, tally)?;
+    compare_made_up_readings(call, &expected, &buffers.lanes, random, tally)
+}
+
+fn used_lengths(call: &FieldCall, expected: &Field) -> Lengths {
+    if call.resources.is_empty() {
+        return Lengths::default();
+    }
+    let window = expected.window;
+    Lengths::of_window(window.width, window.height, call.lanes)
+}
+
+/// Buffers that hold anything, each a few entries longer than what is used, or not longer.
+fn random_buffers(used: Lengths, random: &mut Random) -> Buffers {
+    let mut length = |used: usize| used + random.pick(&[0, 0, 1, 2, 9]);
+    let mut buffers = Buffers {
+        lanes: vec![0; length(used.lanes)],
+        walk: vec![0; length(used.cells)],
+        flags: vec![0; length(used.cells)],
+        rows: vec![0; length(used.rows)],
+        versions: vec![0; length(used.versions)],
+        pulled_down: vec![0; length(used.versions)],
+        pulled_up: vec![0; length(used.versions)],
+    };
+    buffers.lanes.fill_with(|| random.bits() as i16);
+    buffers.walk.fill_with(|| random.bits() as u8);
+    buffers.flags.fill_with(|| random.bits() as u8);
+    buffers.rows.fill_with(|| random.bits() as u16);
+    buffers.versions.fill_with(|| random.bits() as u32);
+    buffers.pulled_down.fill_with(|| random.bits() as u32);
+    buffers.pulled_up.fill_with(|| random.bits() as u32);
+    buffers
+}
+
+fn accepted_answer(call: &FieldCall, expected: &Field) -> FieldAnswer {
+    FieldAnswer {
+        number: 0,
+        place: 0,
+        left: expected.window.left,
+        top: expected.window.top,
+        width: expected.window.width,
+        height: expected.window.height,
+        lanes: call.lanes as u32,
+        sweeps: expected.sweeps,
+    }
+}
+
+/// The used parts are the Rust's, the used versions are 0, and the rest is as it was.
+fn compare_buffers(
+    expected: &Field,
+    before: &Buffers,
+    after: &Buffers,
+    used: Lengths,
+) -> Result<(), String> {
+    filled("lanes", &expected.lanes, &before.lanes, &after.lanes)?;
+    filled("walk bytes", &expected.walk, &before.walk, &after.walk)?;
+    filled("flags", &expected.flags, &before.flags, &after.flags)?;
+    filled(
+        "row intervals",
+        &expected.row_intervals,
+        &before.rows,
+        &after.rows,
+    )?;
+    let zeros = vec![0; used.versions];
+    filled("versions", &zeros, &before.versions, &after.versions)?;
+    filled(
+        "pulled from above",
+        &zeros,
+        &before.pulled_down,
+        &after.pulled_down,
+    )?;
+    filled(
+        "pulled from below",
+        &zeros,
+        &before.pulled_up,
+        &after.pulled_up,
+    )
+}
+
+/// Every cell of the map, and cells past its right and bottom border.
+fn compare_readings(
+    call: &FieldCall,
+    expected: &Field,
+    lane_values: &[i16],
+    tally: &mut Tally,
+) -> Result<(), String> {
+    let lanes = call.lanes as u32;
+    for y in (0..=call.map.height).chain([u32::MAX]) {
+        for x in (0..=call.map.width).chain([u32::MAX]) {
+            let part = expected.part(x, y).map_or(Part::default(), |part| Part {
+                start: part.start,
+                length: part.len(),
+            });
+            let found = library::at(expected.window, lanes, lane_values, x, y);
+            if found != part {
+                return Err(format!("reading {x} {y}: {found:?} for {part:?}"));
+            }
+            tally.readings += 1;
+        }
+    }
+    Ok(())
+}
+
+/// How many window records are made up for a call.
+const MADE_UP_RECORDS: u32 = 8;
+
+/// Cells read by records that the field call did not answer with.
+fn compare_made_up_readings(
+    call: &FieldCall,
+    expected: &Field,
+    lane_values: &[i16],
+    random: &mut Random,
+    tally: &mut Tally,
+) -> Result<(), String> {
+    for _ in 0..MADE_UP_RECORDS {
+        let mut window = expected.window;
+        let mut lanes = call.lanes as u32;
+        for _ in 0..=random.below(2) {
+            let near = random.below(4);
+            let number = random.pick(&[0, 1, near, 8, 16, 1_024, 1_025, u32::MAX - near]);
+            match random.below(5) {
+                0 => window.left = number,
+                1 => window.top = number,
+                2 => window.width = random.pick(&[number, window.width + 1]),
+                3 => window.height = random.pick(&[number, window.height + 1]),
+                _ => lanes = number,
+            }
+        }
+        let x = random_near(window.left, window.width, random);
+        let y = random_near(window.top, window.height, random);
+        let part = part_by_record(window, lanes, lane_values.len(), x, y);
+        let found = library::at(window, lanes, lane_values, x, y);
+        if found != part {
+            return Err(format!(
+                "reading {x} {y} by {window:?} with {lanes} lanes of {}: {found:?} for {part:?}",
+                lane_values.len()
+            ));
+        }
+        tally.made_up_readings += 1;
+    }
+    Ok(())
+}
+
+/// A number of an interval, or one or two past its ends.
+fn random_near(start: u32, length: u32, random: &mut Random) -> u32 {
+    let offset = random.below(length.saturating_add(3)).wrapping_sub(1);
+    start.wrapping_add(offset)
+}
+
+/// Document 01's reading of a cell by any record: outside where the record is past the limits of a
+/// map, or names more lanes than there are, or has a lane count other than 8 or 16.
+fn part_by_record(window: Window, lanes: u32, length: usize, x: u32, y: u32) -> Part {
+    let in_window = |start: u32, length: u32, value: u32| value >= start && value - start < length;
+    let small = window.width <= 1_024 && window.height <= 1_024;
+    if !small
+        || (lanes != 8 && lanes != 16)
+        || !in_window(window.left, window.width, x)
+        || !in_window(window.top, window.height, y)
+    {
+        return Part::default();
+    }
+    let lanes = lanes as usize;
+    let stride = window.width as usize + 2;
+    if stride * (window.height as usize + 2) * lanes > length {
+        return Part::default();
+    }
+    let (column, row) = ((x - window.left) as usize, (y - window.top) as usize);
+    Part {
+        start: ((row + 1) * stride + column + 1) * lanes,
+        length: lanes,
+    }
+}
+
+/// The input damaged in one way, then in several: the first of the table decides. Then each buffer
+/// one entry too short.
+fn compare_refusals(
+    call: &FieldCall,
+    untouched: &Buffers,
+    used: Lengths,
+    random: &mut Random,
+    tally: &mut Tally,
+) -> Result<(), String> {
+    let mut buffers = untouched.clone();
+    for number in 1..=6 {
+        let mut input = Input::from(call);
+        let Some(refusal) = damage(number, call, &mut input, random) else {
+            continue;
+        };
+        expect_refusal(refusal, &input, untouched, &mut buffers)?;
+        tally.refusals[number as usize] += 1;
+        let later = random.between(number as i32, 6) as u32;
+        if later > number && damage(later, call, &mut input, random).is_some() {
+            expect_refusal(refusal, &input, untouched, &mut buffers)?;
+            tally.refusals[number as usize] += 1;
+        }
+    }
+    if call.resources.is_empty() {
+        return Ok(());
+    }
+    let input = Input::from(call);
+    for shortened in 0..7 {
+        let mut before = untouched.clone();
+        match shortened {
+            0 => before.lanes.truncate(used.lanes - 1),
+            1 => before.walk.truncate(used.cells - 1),
+            2 => before.flags.truncate(used.cells - 1),
+            3 => before.rows.truncate(used.rows - 1),
+            4 => before.versions.truncate(used.versions - 1),
+            5 => before.pulled_down.truncate(used.versions - 1),
+            _ => before.pulled_up.truncate(used.versions - 1),
+        }
+        let refusal = Refusal {
+            number: 7,
+            place: 0,
+        };
+        expect_refusal(refusal, &input, &before, &mut before.clone())?;
+        tally.refusals[7] += 1;
+    }
+    Ok(())
+}
+
+/// The input is refused so, and the buffers stay equal to what they were.
+fn expect_refusal(
+    refusal: Refusal,
+    input: &Input,
+    before: &Buffers,
+    buffers: &mut Buffers,
+) -> Result<(), String> {
+    let answer = library::field(input, buffers);
+    let expected = FieldAnswer {
+        number: refusal.number,
+        place: refusal.place as u32,
+        ..FieldAnswer::default()
+    };
+    let described = || {
+        format!(
+            "a damaged input: {} by {} with {} bytes, the largest {:?}; {} lanes; blockers {:?}; \
+             resources {:?}; targets {:?}; lent {} lanes, {} walk bytes, {} flags, {} row \
+             intervals, versions {} {} {}",
+            input.width,
+            input.height,
+            input.cells.len(),
+            input.cells.iter().max(),
+            input.lanes,
+            input.blockers,
+            input.resources,
+            input.targets,
+            before.lanes.len(),
+            before.walk.len(),
+            before.flags.len(),
+            before.rows.len(),
+            before.versions.len(),
+            before.pulled_down.len(),
+            before.pulled_up.len(),
+        )
+    };
+    equal("the refusal", &expected, &answer)
+        .map_err(|difference| format!("{difference}\n{}", described()))?;
+    if buffers != before {
+        return Err(format!(
+            "{refusal}, and yet a buffer changed\n{}",
+            described()
+        ));
+    }
+    Ok(())
+}
+
+fn equal<T: PartialEq + Debug>(what: &str, expected: &T, found: &T) -> Result<(), String> {
+    if found == expected {
+        Ok(())
+    } else {
+        Err(format!("{what}: {found:?} for {expected:?}"))
+    }
+}
+
+/// The used part is as expected, and the entries past it are as they were.
+fn filled<T: PartialEq + Debug>(
+    what: &str,
+    expected: &[T],
+    before: &[T],
+    after: &[T],
+) -> Result<(), String> {
+    let all = expected.iter().chain(&before[expected.len()..]);
+    for (index, (expected, found)) in all.zip(after).enumerate() {
+        if found != expected {
+            return Err(format!("{what}, entry {index}: {found:?} for {expected:?}"));
+        }
+    }
+    Ok(())
+}
