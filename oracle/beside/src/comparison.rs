@@ -22,8 +22,9 @@ pub struct Tally {
     pub most_sweeps: u32,
     /// Cells of a map, and past its border, that were read.
     pub readings: u64,
-    /// Readings by a window record that was made up.
+    /// Readings by a window record that was made up, and how many of them found a part.
     pub made_up_readings: u64,
+    pub made_up_readings_inside: u64,
     /// Refused inputs by their number; the first entry is not used.
     pub refusals: [u64; 8],
 }
@@ -55,7 +56,7 @@ pub fn compare(call: &FieldCall, random: &mut Random, tally: &mut Tally) -> Resu
     equal("the answer", &accepted_answer(call, &expected), &answer)?;
     compare_buffers(&expected, &untouched, &buffers, used)?;
     compare_readings(call, &expected, &buffers.lanes, tally)?;
-    compare_made_up_readings(call, &expected, &buffers.lanes, random, tally)
+    compare_made_up_readings(random, tally)
 }
 
 fn used_lengths(call: &FieldCall, expected: &Field) -> Lengths {
@@ -160,28 +161,35 @@ fn compare_readings(
 /// How many window records are made up for a call.
 const MADE_UP_RECORDS: u32 = 8;
 
-/// Cells read by records that the field call did not answer with.
-fn compare_made_up_readings(
-    call: &FieldCall,
-    expected: &Field,
-    lane_values: &[i16],
-    random: &mut Random,
-    tally: &mut Tally,
-) -> Result<(), String> {
+/// The most lanes that are lent to be read by a made-up record.
+const MADE_UP_LANES: usize = 200_000;
+
+/// Cells read by records that no field call answered with.
+fn compare_made_up_readings(random: &mut Random, tally: &mut Tally) -> Result<(), String> {
+    static LANES: [i16; MADE_UP_LANES] = [0; MADE_UP_LANES];
     for _ in 0..MADE_UP_RECORDS {
-        let mut window = expected.window;
-        let mut lanes = call.lanes as u32;
-        for _ in 0..=random.below(2) {
-            let near = random.below(4);
-            let number = random.pick(&[0, 1, near, 8, 16, 1_024, 1_025, u32::MAX - near]);
-            match random.below(5) {
-                0 => window.left = number,
-                1 => window.top = number,
-                2 => window.width = random.pick(&[number, window.width + 1]),
-                3 => window.height = random.pick(&[number, window.height + 1]),
-                _ => lanes = number,
-            }
+        let mut sides = [random.below(9), random.below(9)];
+        if random.chance(50) {
+            let long = random.below(2) as usize;
+            sides[long] = random.pick(&[1_023, 1_024, 1_024, 1_025, 1_025, u32::MAX]);
         }
+        let edge = random.below(4);
+        let window = Window {
+            left: random.pick(&[0, edge, edge, u32::MAX - edge]),
+            top: random.pick(&[0, edge, edge, u32::MAX - edge]),
+            width: sides[0],
+            height: sides[1],
+        };
+        let lanes = if random.chance(80) {
+            random.pick(&[8, 16])
+        } else {
+            random.pick(&[0, 1, 7, 9, 15, 17, 24, u32::MAX])
+        };
+        let cells: u128 = sides.iter().map(|&side| u128::from(side) + 2).product();
+        let needed = cells * u128::from(lanes);
+        let length = (needed.min(MADE_UP_LANES as u128) as usize + 1)
+            .saturating_sub(random.below(3) as usize);
+        let lane_values = &LANES[..length.min(MADE_UP_LANES)];
         let x = random_near(window.left, window.width, random);
         let y = random_near(window.top, window.height, random);
         let part = part_by_record(window, lanes, lane_values.len(), x, y);
@@ -193,6 +201,7 @@ fn compare_made_up_readings(
             ));
         }
         tally.made_up_readings += 1;
+        tally.made_up_readings_inside += u64::from(part.length != 0);
     }
     Ok(())
 }

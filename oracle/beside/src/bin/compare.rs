@@ -55,7 +55,10 @@ fn main() -> ExitCode {
     );
     println!("at most {} sweeps", tally.most_sweeps);
     println!("{} cells read", tally.readings);
-    println!("{} cells read by made-up records", tally.made_up_readings);
+    println!(
+        "{} cells read by made-up records, {} of them not outside",
+        tally.made_up_readings, tally.made_up_readings_inside
+    );
     for (number, refused) in tally.refusals.iter().enumerate().skip(1) {
         println!("{refused} inputs refused by number {number}");
     }
