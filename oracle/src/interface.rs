@@ -137,8 +137,10 @@ impl fmt::Display for Refusal {
     }
 }
 
-const LARGEST_SIDE: u32 = 1_024;
-const MOST_BLOCKERS: usize = 4_096;
+/// The largest width and height of a map.
+pub const LARGEST_SIDE: u32 = 1_024;
+
+pub const MOST_BLOCKERS: usize = 4_096;
 
 impl FieldCall {
     /// Judges refusals 1 to 6 in the field call's order.

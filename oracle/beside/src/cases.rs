@@ -1,12 +1,8 @@
 //! Random field calls that document 01 accepts: maps of many kinds, with resources, blockers and a
 //! target box. A call depends on the numbers of its generator alone.
 
-use oracle::interface::{CellBox, FieldCall, Map, Rectangle};
+use oracle::interface::{CellBox, FieldCall, LARGEST_SIDE, MOST_BLOCKERS, Map, Rectangle};
 use oracle::maps::{self, Random};
-
-pub const MOST_BLOCKERS: usize = 4_096;
-
-const LARGEST_SIDE: u32 = 1_024;
 
 /// A kind of maps: its name, and how one is made.
 struct Kind {

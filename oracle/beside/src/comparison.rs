@@ -4,10 +4,11 @@
 use std::fmt::Debug;
 
 use oracle::UnchangedRust;
-use oracle::interface::{Field, FieldCall, FieldEngine, Refusal, Window};
+use oracle::interface::{
+    Field, FieldCall, FieldEngine, LARGEST_SIDE, MOST_BLOCKERS, Refusal, Window,
+};
 use oracle::maps::Random;
 
-use crate::cases::MOST_BLOCKERS;
 use crate::damage::damage;
 use crate::library::{self, Buffers, FieldAnswer, Input, Lengths, Part};
 
@@ -171,7 +172,8 @@ fn compare_made_up_readings(random: &mut Random, tally: &mut Tally) -> Result<()
         let mut sides = [random.below(9), random.below(9)];
         if random.chance(50) {
             let long = random.below(2) as usize;
-            sides[long] = random.pick(&[1_023, 1_024, 1_024, 1_025, 1_025, u32::MAX]);
+            let length = LARGEST_SIDE + 1 - random.below(3);
+            sides[long] = random.pick(&[length, length, length, u32::MAX]);
         }
         let edge = random.below(4);
         let window = Window {
@@ -216,7 +218,7 @@ fn random_near(start: u32, length: u32, random: &mut Random) -> u32 {
 /// map, or names more lanes than there are, or has a lane count other than 8 or 16.
 fn part_by_record(window: Window, lanes: u32, length: usize, x: u32, y: u32) -> Part {
     let in_window = |start: u32, length: u32, value: u32| value >= start && value - start < length;
-    let small = window.width <= 1_024 && window.height <= 1_024;
+    let small = window.width <= LARGEST_SIDE && window.height <= LARGEST_SIDE;
     if !small
         || (lanes != 8 && lanes != 16)
         || !in_window(window.left, window.width, x)
@@ -297,37 +299,42 @@ fn expect_refusal(
         place: refusal.place as u32,
         ..FieldAnswer::default()
     };
-    let described = || {
-        format!(
-            "a damaged input: {} by {} with {} bytes, the largest {:?}; {} lanes; blockers {:?}; \
-             resources {:?}; targets {:?}; lent {} lanes, {} walk bytes, {} flags, {} row \
-             intervals, versions {} {} {}",
-            input.width,
-            input.height,
-            input.cells.len(),
-            input.cells.iter().max(),
-            input.lanes,
-            input.blockers,
-            input.resources,
-            input.targets,
-            before.lanes.len(),
-            before.walk.len(),
-            before.flags.len(),
-            before.rows.len(),
-            before.versions.len(),
-            before.pulled_down.len(),
-            before.pulled_up.len(),
-        )
+    let outcome = if buffers == before {
+        equal("the refusal", &expected, &answer)
+    } else {
+        Err(format!("{refusal} expected, and a buffer changed"))
     };
-    equal("the refusal", &expected, &answer)
-        .map_err(|difference| format!("{difference}\n{}", described()))?;
-    if buffers != before {
-        return Err(format!(
-            "{refusal}, and yet a buffer changed\n{}",
-            described()
-        ));
-    }
-    Ok(())
+    outcome.map_err(|difference| format!("{difference}\n{}", described(input, before)))
+}
+
+/// A damaged input and the lengths of its buffers, in words. Its bytes are the map's, but for those
+/// that its length or its largest byte tell.
+fn described(input: &Input, buffers: &Buffers) -> String {
+    let Input {
+        width,
+        height,
+        cells,
+        lanes,
+        blockers,
+        resources,
+        targets,
+    } = input;
+    let lengths = [
+        buffers.lanes.len(),
+        buffers.walk.len(),
+        buffers.flags.len(),
+        buffers.rows.len(),
+        buffers.versions.len(),
+        buffers.pulled_down.len(),
+        buffers.pulled_up.len(),
+    ];
+    format!(
+        "The input was damaged. Size {width} by {height}, {} bytes, the largest {:?}, {lanes} lanes,\n\
+         blockers {blockers:?},\nresources {resources:?}, targets {targets:?},\n\
+         lengths of the buffers {lengths:?}. Undamaged it is:",
+        cells.len(),
+        cells.iter().max(),
+    )
 }
 
 fn equal<T: PartialEq + Debug>(what: &str, expected: &T, found: &T) -> Result<(), String> {

@@ -1,10 +1,11 @@
 //! Damaged inputs: accepted ones changed so that one of refusals 1 to 6 must be given.
 
-use oracle::interface::{FieldCall, Refusal};
+use oracle::interface::{FieldCall, LARGEST_SIDE, MOST_BLOCKERS, Refusal};
 use oracle::maps::Random;
 
-use crate::cases::MOST_BLOCKERS;
 use crate::library::Input;
+
+const TOO_LARGE: u32 = LARGEST_SIDE + 1;
 
 /// Changes an accepted call's input so that the table's test of this number, 1 to 6, no longer holds.
 /// The answer is the refusal. There is none, and nothing is changed, for number 4 on an input
@@ -36,12 +37,12 @@ fn bad_grid(call: &FieldCall, input: &mut Input, random: &mut Random) {
         0 => input.width = 0,
         1 => input.height = 0,
         2 => {
-            input.width = 1_025;
-            cells.resize(1_025 * height as usize, 1);
+            input.width = TOO_LARGE;
+            cells.resize((TOO_LARGE * height) as usize, 1);
         }
         3 => {
-            input.height = 1_025;
-            cells.resize(1_025 * width as usize, 1);
+            input.height = TOO_LARGE;
+            cells.resize((TOO_LARGE * width) as usize, 1);
         }
         // their product is 0 in 32 bits
         4 => {
