@@ -140,7 +140,8 @@ pub fn bordered(width: u32, height: u32, open_percent: u32, seed: u64) -> Map {
     })
 }
 
-/// Open, but for rectangles of wall at random places, none longer than a quarter of a side or four cells.
+/// Open, but for rectangles of wall at random places, at most a quarter of a side long, or four
+/// cells.
 pub fn wall_blocks(width: u32, height: u32, count: u32, seed: u64) -> Map {
     let mut random = Random::new(seed);
     let mut map = open(width, height);
