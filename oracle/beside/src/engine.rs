@@ -1,4 +1,4 @@
-//! The engine that is the proved library.
+//! The engine that is the library.
 
 use std::hint::black_box;
 
