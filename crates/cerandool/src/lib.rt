@@ -1,8 +1,8 @@
 // The static library's exports, for C and for Rust: the field call, and reading a cell. Neither requires anything of what it is given.
-use field::call;
-use field::call::Answer;
-use field::read;
-use window::record;
+use field;
+use field::Answer;
+use reading;
+use reading::Part;
 use window::record::Window;
 
 // What a field call leads to. Where it is accepted, number and place are 0, and the window with its lanes and the
@@ -17,13 +17,6 @@ pub struct FieldAnswer {
     pub height: u32,
     pub lanes: u32,
     pub sweeps: u32,
-}
-
-// The part of the lent lanes that belongs to a cell: where it starts, and how long it is. Both are 0 for a cell outside.
-#[repr(C)]
-pub struct Part {
-    pub start: usize,
-    pub length: usize,
 }
 
 // The answer to a refused call.
@@ -75,7 +68,7 @@ pub extern "C" fn cerandool_field(
     pulled_down: &mut [u32],
     pulled_up: &mut [u32],
 ) -> FieldAnswer {
-    let answer = call::field(
+    let answer = field::field(
         width,
         height,
         cells,
@@ -100,13 +93,6 @@ pub extern "C" fn cerandool_field(
     }
 }
 
-// Where the lanes of the map's cell (x, y) start, for a cell of the window.
-fn start_of(window: Window, x: usize, y: usize) -> usize {
-    let row = y - window.top + 1;
-    let column = x - window.left + 1;
-    (row * record::stride(window) + column) * window.lanes
-}
-
 // The part of the lent lanes that belongs to the map's cell (x, y), by a window record that the caller may have made up.
 #[no_mangle]
 pub extern "C" fn cerandool_at(
@@ -126,15 +112,5 @@ pub extern "C" fn cerandool_at(
         height: height as usize,
         lanes: lanes as usize,
     };
-    let length = read::at(window, lane_values, x, y).len();
-    if length == 0 {
-        return Part {
-            start: 0,
-            length: 0,
-        };
-    }
-    Part {
-        start: start_of(window, x as usize, y as usize),
-        length,
-    }
+    reading::cell_part(window, lane_values.len(), x as usize, y as usize)
 }

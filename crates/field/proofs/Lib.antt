@@ -1,3 +1,2 @@
--- The field call's promise from its plan, and the laws of reading a cell.
+-- The field call's promise from its plan.
 pub mod Calls
-pub mod Parts

@@ -1,8 +1,8 @@
 -- The field call's answer as document 01's.
 use Rattle.walkgraph.specs.Promise.{FieldAnswer, refusal, made}
 use Rattle.window.specs.Windows.{asRecord}
-use Rattle.field.specs.declared.call.Answer.{Answer}
-use Rattle.field.specs.declared.call.Answer.the-variants.{Refused, Made}
+use Rattle.field.specs.declared.Answer.{Answer}
+use Rattle.field.specs.declared.Answer.the-variants.{Refused, Made}
 
 -- "A refusal returns number and place"; else the window record and the sweep count
 unfoldable pub answerOf : Answer → FieldAnswer

@@ -1,3 +1,2 @@
--- The field call's answer, and parts of the lent lanes.
+-- The field call's answer.
 pub mod Answers
-pub mod Parts

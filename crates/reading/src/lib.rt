@@ -8,7 +8,14 @@ ghost use lib.Dec.{leb, ltb};
 ghost use lib.ListN.{length};
 ghost use Rattle.walkgraph.specs.Reading.{fits, inRecord, readPart};
 ghost use Rattle.window.specs.Windows.{asRecord};
-ghost use Rattle.field.specs.Parts.{hasRoom, OfCell, partOf};
+ghost use Rattle.reading.specs.Parts.{asPart, hasRoom, OfCell, partOf};
+
+// A part of the lent lanes: where it starts, and how long it is. Both are 0 for a cell outside.
+#[repr(C)]
+pub struct Part {
+    pub start: usize,
+    pub length: usize,
+}
 
 // Whether a record is in the limits of a map, and its lanes are no more than length.
 fn room(window: Window, length: usize) -> bool
@@ -70,14 +77,28 @@ fn start_of(window: Window, x: usize, y: usize) -> usize
     (row * record::stride(window) + column) * window.lanes
 }
 
+// The part that belongs to the map's cell (x, y), of a buffer of so many lanes.
+pub fn cell_part(window: Window, length: usize, x: usize, y: usize) -> Part
+    ensures { λ r. ⌜ asPart r ≡ readPart (asRecord window) length x y ⌝ }
+{
+    if !holds(window, length, x, y) {
+        return Part {
+            start: 0,
+            length: 0,
+        };
+    }
+    Part {
+        start: start_of(window, x, y),
+        length: window.lanes,
+    }
+}
+
 // The lanes of the map's cell (x, y), or an empty part for a cell outside.
 pub fn at(window: Window, lanes: &[i16], x: u32, y: u32) -> &[i16]
     ensures { λ r. ⌜ now r ≡ partOf (readPart (asRecord window) (length (now (lanes .entry))) x y) (now (lanes .entry)) ⌝ }
 {
-    if !holds(window, lanes.len(), x as usize, y as usize) {
-        return &lanes[0..0];
-    }
-    let start = start_of(window, x as usize, y as usize);
-    let end = start + window.lanes;
+    let part = cell_part(window, lanes.len(), x as usize, y as usize);
+    let start = part.start;
+    let end = start + part.length;
     &lanes[start..end]
 }

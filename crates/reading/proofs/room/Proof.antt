@@ -1,12 +1,12 @@
--- `field::read::room`: the limits come first, so the product fits.
+-- `reading::room`: the limits come first, so the product fits.
 use Prim.Native.Nat.{_+_, _*_, _≤_}
 use native.Mathlib.Nat.{mul-le-mul}
 use native.Mathlib.Omega.{arith}
 use borrow.Author.Needs.{needs}
 use borrow.Author.Tests.{le-leb, lt-leb}
-use Rattle.field.specs.Parts.{hasRoom}
-use Rattle.field.proofs.read.room.Statement.{statement}
-use Rattle.field.proofs.read.room.Tie as tie
+use Rattle.reading.specs.Parts.{hasRoom}
+use Rattle.reading.proofs.room.Statement.{statement}
+use Rattle.reading.proofs.room.Tie as tie
 
 returns : tie.Need-returns
 unfolding hasRoom

@@ -1,7 +1,7 @@
--- `field::read::among`: its two tests.
+-- `reading::among`: its two tests.
 use borrow.Author.Tests.{le-leb, lt-leb}
-use Rattle.field.proofs.read.among.Statement.{statement}
-use Rattle.field.proofs.read.among.Tie as tie
+use Rattle.reading.proofs.among.Statement.{statement}
+use Rattle.reading.proofs.among.Tie as tie
 
 returns : tie.Need-returns
 returns c = rw (lt-leb (c .before .args .start) (c .before .args .value) (c .if1 .taken))

@@ -1,4 +1,4 @@
--- `field::call::field`: what the plan says of the call, and what is made of it.
+-- `field::field`: what the plan says of the call, and what is made of it.
 use mathlib.Core.Path.{_≡_, refl, subst}
 use mathlib.Core.Logic.{_⊎_, ⊎-elim}
 use native.Mathlib.Omega.{arith}
@@ -20,8 +20,8 @@ use Rattle.plan.specs.Plans.{inputOf, Lengths, PlanOf}
 use Rattle.make.specs.Makes.{lent}
 use Rattle.field.specs.Answers.{answerOf}
 use Rattle.field.proofs.Calls.{call-refused, call-nothing, make-fits, call-made}
-use Rattle.field.proofs.call.field.Statement.{statement}
-use Rattle.field.proofs.call.field.Tie as tie
+use Rattle.field.proofs.field.Statement.{statement}
+use Rattle.field.proofs.field.Tie as tie
 
 -- what the call is given
 abbrev input : tie.Start → FieldInput

@@ -14,7 +14,7 @@ use Rattle.walkgraph.specs.Reading.{WindowRecord, fits, inRecord, outsidePart, 
 use Rattle.walkgraph.specs.Refusals.{badLanes}
 use Rattle.cells.proofs.Bools.{both}
 use Rattle.judge.proofs.Accepted.{lanes}
-use Rattle.field.specs.Parts.{OfCell, partOf}
+use Rattle.reading.specs.Parts.{OfCell, partOf}
 
 module _ (r : WindowRecord) (n x y : ℕ) where
   pub outside : (fits r n && inRecord r x y) ≡ false → readPart r n x y ≡ outsidePart

@@ -1,10 +1,10 @@
--- `field::read::fits`: its tests are document 01's.
+-- `reading::fits`: its tests are document 01's.
 use borrow.Author.Needs.{needs}
 use borrow.Author.Tests.{eq-eqb, ne-eqb}
 use Rattle.walkgraph.specs.Reading.{fits}
-use Rattle.field.specs.Parts.{hasRoom}
-use Rattle.field.proofs.read.fits.Statement.{statement}
-use Rattle.field.proofs.read.fits.Tie as tie
+use Rattle.reading.specs.Parts.{hasRoom}
+use Rattle.reading.proofs.fits.Statement.{statement}
+use Rattle.reading.proofs.fits.Tie as tie
 
 room-requires : tie.Need-room-requires
 room-requires c κs = search needs

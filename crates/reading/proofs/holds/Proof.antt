@@ -1,12 +1,12 @@
--- `field::read::holds`: its tests, in the order of those of a record and of a cell in its window.
+-- `reading::holds`: its tests, in the order of those of a record and of a cell in its window.
 use mathlib.Core.Path.{_≡_, sym, _∙_}
 use mathlib.Core.Bool.{true}
 use borrow.Author.Needs.{needs}
 use borrow.Author.Tests.{not-true, not-false}
 use Rattle.walkgraph.specs.Reading.{fits, inRecord}
 use Rattle.window.specs.Windows.{asRecord}
-use Rattle.field.proofs.read.holds.Statement.{statement}
-use Rattle.field.proofs.read.holds.Tie as tie
+use Rattle.reading.proofs.holds.Statement.{statement}
+use Rattle.reading.proofs.holds.Tie as tie
 
 fits-requires : tie.Need-fits-requires
 fits-requires c κs = search needs

@@ -1,9 +1,9 @@
--- `field::read::start_of`: rows and columns are few, so their products fit.
+-- `reading::start_of`: rows and columns are few, so their products fit.
 use native.Mathlib.Omega.{arith}
 use borrow.Author.Needs.{needs}
-use Rattle.field.proofs.Parts.{row-start, lane-start}
-use Rattle.field.proofs.read.start_of.Statement.{statement}
-use Rattle.field.proofs.read.start_of.Tie as tie
+use Rattle.reading.proofs.Parts.{row-start, lane-start}
+use Rattle.reading.proofs.start_of.Statement.{statement}
+use Rattle.reading.proofs.start_of.Tie as tie
 
 sub-row : tie.Need-sub-row
 sub-row c = search needs

@@ -1,0 +1,2 @@
+-- The laws of reading a cell.
+pub mod Parts

@@ -1,0 +1,2 @@
+-- Parts of the lent lanes.
+pub mod Parts
