@@ -4,6 +4,16 @@ use field::Answer;
 use reading;
 use reading::Part;
 use window::record::Window;
+ghost use mathlib.Core.Path.{_≡_};
+ghost use lib.ListN.{length};
+ghost use Rattle.walkgraph.specs.Reading.{readPart};
+ghost use Rattle.cells.specs.Boxes.{reach};
+ghost use Rattle.rings.specs.Rings.{corners};
+ghost use Rattle.plan.specs.Plans.{inputOf};
+ghost use Rattle.make.specs.Makes.{lent};
+ghost use Rattle.reading.specs.Parts.{asPart};
+ghost use Rattle.field.specs.Answers.{answerOf};
+ghost use Rattle.cerandool.specs.Exports.{numbersOf, InU32, FieldExported, recordFrom};
 
 // What a field call leads to. Where it is accepted, number and place are 0, and the window with its lanes and the
 // sweep count follow. Where it is refused, number and place are the table's, and the rest is 0.
@@ -19,31 +29,32 @@ pub struct FieldAnswer {
     pub sweeps: u32,
 }
 
-// The answer to a refused call.
-fn refused(number: u32, place: u32) -> FieldAnswer {
-    FieldAnswer {
-        number,
-        place,
-        left: 0,
-        top: 0,
-        width: 0,
-        height: 0,
-        lanes: 0,
-        sweeps: 0,
-    }
-}
-
-// The answer to an accepted call.
-fn made(window: Window, sweeps: usize) -> FieldAnswer {
-    FieldAnswer {
-        number: 0,
-        place: 0,
-        left: window.left as u32,
-        top: window.top as u32,
-        width: window.width as u32,
-        height: window.height as u32,
-        lanes: window.lanes as u32,
-        sweeps: sweeps as u32,
+// The eight numbers of an answer.
+fn numbers(answer: Answer) -> FieldAnswer
+    requires { ⌜ InU32 (answerOf answer) ⌝ }
+    ensures { λ r. ⌜ r ≡ numbersOf (answerOf answer) ⌝ }
+{
+    match answer {
+        Answer::Refused { number, place } => FieldAnswer {
+            number,
+            place,
+            left: 0,
+            top: 0,
+            width: 0,
+            height: 0,
+            lanes: 0,
+            sweeps: 0,
+        },
+        Answer::Made { window, sweeps } => FieldAnswer {
+            number: 0,
+            place: 0,
+            left: window.left as u32,
+            top: window.top as u32,
+            width: window.width as u32,
+            height: window.height as u32,
+            lanes: window.lanes as u32,
+            sweeps: sweeps as u32,
+        },
     }
 }
 
@@ -67,7 +78,11 @@ pub extern "C" fn cerandool_field(
     versions: &mut [u32],
     pulled_down: &mut [u32],
     pulled_up: &mut [u32],
-) -> FieldAnswer {
+) -> FieldAnswer
+    ensures { λ r. ⌜ FieldExported reach (inputOf width height (now (cells .entry)) lanes (now (blockers .entry)) (now (resources .entry)) (corners left top right bottom))
+        (lent (now («lane_values» .entry)) (now (walk .entry)) (now (flags .entry)) (now (rows .entry)) (now (versions .entry)) (now («pulled_down» .entry)) (now («pulled_up» .entry)))
+        (lent (now («lane_values» .exit)) (now (walk .exit)) (now (flags .exit)) (now (rows .exit)) (now (versions .exit)) (now («pulled_down» .exit)) (now («pulled_up» .exit))) r ⌝ }
+{
     let answer = field::field(
         width,
         height,
@@ -87,10 +102,7 @@ pub extern "C" fn cerandool_field(
         pulled_down,
         pulled_up,
     );
-    match answer {
-        Answer::Refused { number, place } => refused(number, place),
-        Answer::Made { window, sweeps } => made(window, sweeps),
-    }
+    numbers(answer)
 }
 
 // The part of the lent lanes that belongs to the map's cell (x, y), by a window record that the caller may have made up.
@@ -104,7 +116,9 @@ pub extern "C" fn cerandool_at(
     lane_values: &[i16],
     x: u32,
     y: u32,
-) -> Part {
+) -> Part
+    ensures { λ r. ⌜ asPart r ≡ readPart (recordFrom left top width height lanes) (length (now («lane_values» .entry))) x y ⌝ }
+{
     let window = Window {
         left: left as usize,
         top: top as usize,

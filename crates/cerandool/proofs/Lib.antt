@@ -1,0 +1,3 @@
+-- The exports' promises determine what they give back, and its numbers are small.
+pub mod Bounds
+pub mod Exports

@@ -1,0 +1,2 @@
+-- What the exports give back.
+pub mod Exports
