@@ -1,5 +1,4 @@
 -- `cerandool::numbers`: each case gives its own numbers, and those that are cast are u32s.
-use native.Mathlib.Omega.{arith}
 use borrow.Author.Needs.{needs}
 use Rattle.window.specs.Windows.{asRecord}
 use Rattle.field.specs.Answers.{answerOf}
@@ -19,22 +18,22 @@ unfolding InU32 answerOf
 small c = rw (c .before .answer2 .given .1) at (c .before .before .before .pre)
 
 cast-t7 : tie.Need-cast-t7
-cast-t7 c = record { fits = omega (arith, small (c .before) .left) }
+cast-t7 c = let s = small (c .before) in search needs
 
 cast-t8 : tie.Need-cast-t8
-cast-t8 c = record { fits = omega (arith, small (c .before .before) .top) }
+cast-t8 c = let s = small (c .before .before) in search needs
 
 cast-t9 : tie.Need-cast-t9
-cast-t9 c = record { fits = omega (arith, small (c .before .before .before) .width) }
+cast-t9 c = let s = small (c .before .before .before) in search needs
 
 cast-t10 : tie.Need-cast-t10
-cast-t10 c = record { fits = omega (arith, small (c .before .before .before .before) .height) }
+cast-t10 c = let s = small (c .before .before .before .before) in search needs
 
 cast-t11 : tie.Need-cast-t11
-cast-t11 c = record { fits = omega (arith, small (c .before .before .before .before .before) .lanes) }
+cast-t11 c = let s = small (c .before .before .before .before .before) in search needs
 
 cast-t12 : tie.Need-cast-t12
-cast-t12 c = record { fits = omega (arith, small (c .before .before .before .before .before) .count) }
+cast-t12 c = let s = small (c .before .before .before .before .before) in search needs
 
 returns : tie.Need-returns
 unfolding numbersOf answerOf
