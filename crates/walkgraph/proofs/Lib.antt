@@ -31,3 +31,4 @@ pub mod NumberingMade
 pub mod AccessList
 pub mod Readings
 pub mod Promises
+pub mod AccessCall

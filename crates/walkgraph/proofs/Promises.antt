@@ -26,10 +26,10 @@ unfolding judge
 judge-accepted true number place next e = absurd (let z : _≡_ {A = ℕ} 0 1 = cc in omega arith)
 judge-accepted false number place next e = (refl, e)
 
-clash {ℓ} : {A : Type ℓ} {number place : ℕ} {v : Verdict} → v ≡ refused number place → v ≡ accepted → A
+pub clash {ℓ} : {A : Type ℓ} {number place : ℕ} {v : Verdict} → v ≡ refused number place → v ≡ accepted → A
 clash p q = absurd (let z : _≡_ {A = ℕ} 0 1 = cc in omega arith)
 
-same-number : {number place number′ place′ : ℕ} {v : Verdict} → v ≡ refused number place → v ≡ refused number′ place′ → (number ≡ number′) × (place ≡ place′)
+pub same-number : {number place number′ place′ : ℕ} {v : Verdict} → v ≡ refused number place → v ≡ refused number′ place′ → (number ≡ number′) × (place ≡ place′)
 same-number p q = (cc, cc)
 
 -- an accepted call has lanes

@@ -13,3 +13,4 @@ pub mod Buffers
 pub mod Reading
 pub mod Refusals
 pub mod Promise
+pub mod AccessPromise
