@@ -1,0 +1,69 @@
+// The public call: access of a rectangle, judged 1, 4, 7.
+use crate::rows;
+use cells::boxes::CellBox;
+use judge::grid;
+use rings::ring;
+use rings::ring::Ring;
+ghost use lib.ListN.{length};
+ghost use Rattle.walkgraph.specs.AccessPromise.{AccessPromise};
+ghost use Rattle.cells.specs.Boxes.{boxOf};
+ghost use Rattle.rings.specs.Rings.{corners};
+ghost use Rattle.access.specs.Rows.{OnMap, ringPlaces};
+ghost use Rattle.access.specs.Answers.{answerOf, RingListed};
+
+// A call is refused with the table's number and place, or lists so many access cells.
+pub enum Answer {
+    Refused { number: u32, place: u32 },
+    Listed { count: usize },
+}
+
+// Lists the walkable cells of a ring, or refuses a buffer that is too short for them.
+pub fn list_ring(
+    cells: &[u8],
+    ring: CellBox,
+    body: CellBox,
+    width: usize,
+    out: &mut [u32],
+) -> Answer
+    requires { ⌜ OnMap width (length (now cells)) (boxOf ring) (boxOf body) ⌝ }
+    ensures { λ r. ⌜ RingListed (ringPlaces (now (cells .entry)) width (boxOf ring) (boxOf body)) (now (out .entry)) (now (out .exit)) r ⌝ }
+{
+    if out.len() < rows::count_rows(cells, ring, body, width) {
+        return Answer::Refused {
+            number: 7,
+            place: 0,
+        };
+    }
+    let count = rows::list_rows(cells, ring, body, width, out);
+    Answer::Listed { count }
+}
+
+// Access of a rectangle: the indices of its access cells by row, then column, and how many there are; or a refusal, and nothing is written.
+pub fn access(
+    width: u32,
+    height: u32,
+    cells: &[u8],
+    left: i32,
+    top: i32,
+    right: i32,
+    bottom: i32,
+    out: &mut [u32],
+) -> Answer
+    ensures { λ r. ⌜ AccessPromise width height (now (cells .entry)) (corners left top right bottom) (now (out .entry)) (now (out .exit)) (answerOf r) ⌝ }
+{
+    if !grid::grid_ok(width, height, cells) {
+        return Answer::Refused {
+            number: 1,
+            place: 0,
+        };
+    }
+    let columns = width as usize;
+    let found = ring::ring_of(left, top, right, bottom, columns, height as usize);
+    let Ring::Present { ring, body } = found else {
+        return Answer::Refused {
+            number: 4,
+            place: 0,
+        };
+    };
+    list_ring(cells, ring, body, columns, out)
+}
