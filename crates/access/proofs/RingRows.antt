@@ -20,6 +20,10 @@ use Rattle.access.proofs.Places.{run-most, in-order-more, in-order-up, 
 pub row-start : {width : ℕ} {ring body : Box} (y : ℕ) → OnGrid width ring body → y ≤ ring .bottom → y * width ≤ 1048576
 row-start y g h = let i : y ≤ 1024 = omega (arith, g .rows) in mul-le-mul i (g .wide)
 
+pub same-runs : {a a′ b b′ c c′ d d′ : ℕ} → a ≡ a′ → b ≡ b′ → c ≡ c′ → d ≡ d′ →
+    _≡_ {A = Runs} (record { first = a; before = b; second = c; after = d }) (record { first = a′; before = b′; second = c′; after = d′ })
+same-runs h i j k = cc
+
 module _ (width : ℕ) (ring body : Box) (y : ℕ) where
   -- ---- the runs of row y: above the body, below it, beside it
   pub runs-above : y < body .top → wholeRow width ring y ≡ rowRuns width ring body y

@@ -28,7 +28,8 @@ pub fn list_ring(
     requires { ⌜ OnMap width (length (now cells)) (boxOf ring) (boxOf body) ⌝ }
     ensures { λ r. ⌜ RingListed (ringPlaces (now (cells .entry)) width (boxOf ring) (boxOf body)) (now (out .entry)) (now (out .exit)) r ⌝ }
 {
-    if out.len() < rows::count_rows(cells, ring, body, width) {
+    let needed = rows::count_rows(cells, ring, body, width);
+    if out.len() < needed {
         return Answer::Refused {
             number: 7,
             place: 0,

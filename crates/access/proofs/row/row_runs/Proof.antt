@@ -1,8 +1,9 @@
 -- `access::row::row_runs`: above the body, below it, and beside it.
+use mathlib.Core.Path.{_∙_}
 use borrow.Author.Needs.{needs}
 use native.Mathlib.Omega.{arith}
 use Rattle.cells.specs.Boxes.{boxOf}
-use Rattle.access.proofs.RingRows.{row-start, runs-above, runs-below, runs-beside}
+use Rattle.access.proofs.RingRows.{row-start, same-runs, runs-above, runs-below, runs-beside}
 use Rattle.access.proofs.row.row_runs.Statement.{statement}
 use Rattle.access.proofs.row.row_runs.Tie as tie
 
@@ -19,10 +20,16 @@ sub-t9 : tie.Need-sub-t9
 sub-t9 c = search needs
 
 returns : tie.Need-returns
-returns c = let b = c .before .before .before .before .before in runs-above (b .args .width) (boxOf (b .args .ring)) (boxOf (b .args .body)) (b .args .y) (c .if1 .taken)
+returns c =
+    let b = c .before .before .before .before .before in
+    same-runs (omega arith) (omega arith) (omega arith) (omega arith)
+    ∙ runs-above (b .args .width) (boxOf (b .args .ring)) (boxOf (b .args .body)) (b .args .y) (omega arith)
 
 returns-2 : tie.Need-returns-2
-returns-2 c = let b = c .before .before .before .before .before .before .before in runs-below (b .args .width) (boxOf (b .args .ring)) (boxOf (b .args .body)) (b .args .y) (omega arith) (c .if2 .taken)
+returns-2 c =
+    let b = c .before .before .before .before .before .before .before in
+    same-runs (omega arith) (omega arith) (omega arith) (omega arith)
+    ∙ runs-below (b .args .width) (boxOf (b .args .ring)) (boxOf (b .args .body)) (b .args .y) (omega arith) (omega arith)
 
 add-t7-2 : tie.Need-add-t7-2
 add-t7-2 c = let b = c .before .before .before .before .before .before .before .before in omega (arith, row-start (b .args .y) (b .pre .0) (b .pre .1))
@@ -42,7 +49,8 @@ sub-t12 c = search needs
 returns-3 : tie.Need-returns-3
 returns-3 c =
     let b = c .before .before .before .before .before .before .before .before .before .before .before .before .before in
-    runs-beside (b .args .width) (boxOf (b .args .ring)) (boxOf (b .args .body)) (b .args .y) (omega (arith, c .before .before .before .before .before .before .before .before .if1 .left)) (omega (arith, c .before .before .before .before .before .before .if2 .left))
+    same-runs (omega arith) (omega arith) (omega arith) (omega arith)
+    ∙ runs-beside (b .args .width) (boxOf (b .args .ring)) (boxOf (b .args .body)) (b .args .y) (omega (arith, c .before .before .before .before .before .before .before .before .if1 .left)) (omega (arith, c .before .before .before .before .before .before .if2 .left))
 
 pub row-runs-spec : {M : Type 1} → statement M
 row-runs-spec =

@@ -9,7 +9,7 @@ use Rattle.access.proofs.run.put.Statement.{statement}
 use Rattle.access.proofs.run.put.Tie as tie
 
 returns : tie.Need-returns
-returns c = let a = c .before .args in rw (open-no (a .byte) (a .place) (c .if1 .taken)) (listed-none _ _)
+returns c = let a = c .before .args in rw (open-no (a .byte) (a .place) (λ e. omega arith)) (listed-none _ _)
 
 cast-out : tie.Need-cast-out
 cast-out c = search needs
@@ -18,7 +18,7 @@ mul-out : tie.Need-mul-out
 mul-out c = search needs
 
 slice-write-out : tie.Need-slice-write-out
-slice-write-out c = let a = c .before .args in omega (arith, c .before .pre .room, ap length (open-yes (a .byte) (a .place) (c .if1 .left)))
+slice-write-out c = let a = c .before .args in omega (arith, c .before .pre .room, ap length (open-yes (a .byte) (a .place) (omega arith)))
 
 add-result : tie.Need-add-result
 add-result c = search needs
@@ -27,7 +27,7 @@ same-length : tie.Need-same-length
 same-length c = search needs
 
 returns-2 : tie.Need-returns-2
-returns-2 c = let a = c .before .args in rw (open-yes (a .byte) (a .place) (c .if1 .left)) (record { ends = refl; buffer = refl })
+returns-2 c = let a = c .before .args in rw (open-yes (a .byte) (a .place) (omega arith)) (record { ends = refl; buffer = refl })
 
 pub put-spec : {M : Type 1} → statement M
 put-spec =
