@@ -1,0 +1,3 @@
+// The disjoint set: members in classes, each class a tree of parents in lent slices, with ranks that rise toward the root.
+pub mod find;
+pub mod union;
