@@ -35,7 +35,7 @@ begun {parents = parents} {ranks = ranks} size long few self zero-rank =
       size = size;
       forest = record {
         long = long;
-        few = few;
+        few = omega arith;
         ranked = record { below = λ i h. omega (arith, self i h); rise = λ i h n. absurd (n (self i h)) };
         root = λ i. i;
         sized = record { «at» = λ i h. top (self i h); large = λ r h e. rw (zero-rank r h) (one-member (length parents) r h) };
@@ -62,8 +62,8 @@ sized-kept {p} {p′} {k} {root} {n} kept s =
     }
 
 -- the parent's find left p₁, and i points to the root now
-pub found-up : {p p₁ k : List ℕ} {i r : ℕ} → Forest p k → i < length p → of p i ≢ i → Found p p₁ k (of p i) r → Found p (set p₁ i r) k i r
-found-up {p} {p₁} {k} {i} {r} f h n g =
+points-up : {p p₁ k : List ℕ} {i r : ℕ} → Forest p k → i < length p → of p i ≢ i → Found p p₁ k (of p i) r → Found p (set p₁ i r) k i r
+points-up {p} {p₁} {k} {i} {r} f h n g =
     let q : Root (of p) i r = up n (g .root) in
     let s : Root (of p₁) i r = g .kept q in
     let l : i < length p₁ = omega (arith, g .size) in
@@ -84,3 +84,7 @@ found-up {p} {p₁} {k} {i} {r} f h n g =
         sized = rw z (sized-kept (λ j t q. short-root s e rest q) (g .forest .sized));
       };
     }
+
+-- what is written is the root
+pub found-up : {p p₁ k : List ℕ} {i r written : ℕ} → Forest p k → i < length p → of p i ≢ i → Found p p₁ k (of p i) r → written ≡ r → Found p (set p₁ i written) k i r
+found-up f h n g e = rw e (points-up f h n g)

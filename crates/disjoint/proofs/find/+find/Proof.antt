@@ -1,5 +1,4 @@
 -- `disjoint::find::find`: ranks rise toward the root, so what is left below the largest rank falls with each call on the parent.
-use mathlib.Core.Path.{_∙_}
 use Prim.Native.Nat.{ℕ, _-_, _<_}
 use native.Mathlib.Omega.{arith}
 use borrow.Author.Needs.{needs}
@@ -67,13 +66,12 @@ find-slice-write-parents t c = omega (arith, c .before .before .before .before .
 
 find-same-length :
     (t : ℕ) → find-lts.Need-same-length (find-below t, find.Post) (find-at t) find.Post
-find-same-length t c =
-    length-set (c .before .before .find .last .0) (c .before .before .before .before .before .before .before .before .args .member) (c .before .before .find .result) ∙ c .before .before .find .ensures .size
+find-same-length t c = simp length-set (c .before .before .find .ensures .size)
 
 find-returns-2 : (t : ℕ) → find-lts.Need-returns-2 (find-below t, find.Post) (find-at t) find.Post
 find-returns-2 t c =
     let s = c .before .before .before .before .before .before .before .before in
-    found-up (s .pre .1 .0) (s .pre .1 .1) (c .before .before .before .before .if1 .left) (c .before .before .find .ensures)
+    found-up (s .pre .1 .0) (s .pre .1 .1) (c .before .before .before .before .if1 .left) (c .before .before .find .ensures) (omega arith)
 
 pub +find-spec : {M : Type 1} → statement M
 +find-spec =
