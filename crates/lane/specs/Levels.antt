@@ -1,4 +1,6 @@
 -- Lanes as natural numbers. A lane's level is the lane + 32,768, so 0 to 65,535, and 65,535 is unreachable. All contracts on lanes speak of levels.
+use mathlib.Core.Path.{_≡_}
+use mathlib.Core.Logic.{_⊎_}
 use mathlib.Core.Bool.{Bool, cond}
 use mathlib.Core.List.{List}
 use Prim.Native.Nat.{ℕ, suc, _+_, _-_, min, max}
@@ -37,3 +39,7 @@ backLevel old beside walkGate = max (min old (saturated beside 500)) walkGate
 -- the level of a cell before the first sweep: that of half cost 0 where it starts
 abbrev pub startedLevel : ℕ → Bool → ℕ
 startedLevel old starts = cond starts 17534 old
+
+-- "8 or 16 lanes"
+abbrev pub LaneCount : ℕ → Type 0
+LaneCount lanes = (lanes ≡ 8) ⊎ (lanes ≡ 16)

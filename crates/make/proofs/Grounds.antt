@@ -31,7 +31,7 @@ use Rattle.intervals.proofs.Fits.{row-ends}
 use Rattle.walkbytes.proofs.WalkMade.{walk-made}
 use Rattle.flags.proofs.FlagsMade.{bytes-small}
 use Rattle.intervals.proofs.RowsMade.{first-made, past-made}
-use Rattle.ways.specs.Buffers.{LaneCount}
+use Rattle.lane.specs.Levels.{LaneCount}
 use Rattle.start.specs.Hits.{Room}
 use Rattle.startcells.specs.Hits.{startedLevels}
 use Rattle.make.specs.Grounds.{unreachableLevels}

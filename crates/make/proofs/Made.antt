@@ -16,7 +16,7 @@ use Rattle.walkgraph.proofs.Lists.{placed-above}
 use Rattle.walkgraph.proofs.Intervals.{row-interval}
 use Rattle.walkgraph.proofs.Lanes.{LaneRules, lane-rules}
 use Rattle.cells.specs.Boxes.{reach}
-use Rattle.lane.specs.Levels.{levelAt}
+use Rattle.lane.specs.Levels.{levelAt, LaneCount}
 use Rattle.window.specs.declared.record.Window.{Window}
 use Rattle.window.specs.Windows.{windowOver, OnMap}
 use Rattle.window.specs.Fills.{entries, zeros, AreBits}
@@ -32,7 +32,6 @@ use Rattle.start.specs.Hits.{lanesHit}
 use Rattle.start.proofs.HitsAre.{hits-are}
 use Rattle.sweep.specs.Sweeps.{Run, Ended}
 use Rattle.sweep.specs.Buffers as sweep
-use Rattle.ways.specs.Buffers.{LaneCount}
 use Rattle.row.specs.Buffers.{groundOf}
 use Rattle.sweep.specs.Buffers.{runOf, Stops}
 use Rattle.plainsweeps.proofs.RowLevels.{Holds}

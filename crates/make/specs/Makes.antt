@@ -12,7 +12,6 @@ use Rattle.sweep.specs.Sweeps.{Ended}
 use Rattle.row.specs.Buffers.{groundOf}
 use Rattle.sweep.specs.Buffers.{runOf, Window, Stops}
 use Rattle.plan.specs.declared.site.Site.{Site}
-use Rattle.plan.specs.Sites.{GoodSite}
 use Rattle.make.specs.Grounds.{GroundFits, BeginFits}
 use Rattle.make.specs.Versions.{VersionBuffers, BeforeSweeps, AfterSweeps}
 

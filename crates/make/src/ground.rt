@@ -21,7 +21,8 @@ ghost use Rattle.make.specs.Grounds.{GroundFits, BeginFits, unreachableL
 // The walk bytes and the flags of the window.
 pub fn ground(site: Site, cells: &[u8], blockers: &[i32], walk: &mut [u8], flags: &mut [u8])
     requires { ⌜ GroundFits site (now cells) (length (now walk)) (length (now flags)) ⌝ }
-    ensures { λ _. ⌜ (entries (now (walk .exit)) ≡ walkFilled (site .window) (site .width) (site .height) (now (cells .entry)) (now (blockers .entry)) (entries (now (walk .entry)))) × (entries (now (flags .exit)) ≡ flagsFilled (site .window) (entries (now (walk .exit))) (entries (now (flags .entry)))) ⌝ }
+    ensures { λ _. ⌜ (entries (now (walk .exit)) ≡ walkFilled (site .window) (site .width) (site .height) (now (cells .entry)) (now (blockers .entry)) (entries (now (walk .entry))))
+        × (entries (now (flags .exit)) ≡ flagsFilled (site .window) (entries (now (walk .exit))) (entries (now (flags .entry)))) ⌝ }
 {
     let window = site.window;
     let count = record::padded(window);
@@ -35,7 +36,9 @@ pub fn ground(site: Site, cells: &[u8], blockers: &[i32], walk: &mut [u8], flags
 // The row intervals, and the lanes before the first sweep.
 pub fn begin(site: Site, resources: &[i32], lanes: &mut [i16], walk: &[u8], rows: &mut [u16])
     requires { ⌜ BeginFits site (now resources) (length (now lanes)) (length (now walk)) (length (now rows)) ⌝ }
-    ensures { λ _. ⌜ (entries (now (rows .exit)) ≡ rowsFilled (site .window) (boxOf (site .sources)) (boxOf (site .targets)) (entries (now (rows .entry)))) × (levelAt (now (lanes .exit)) ≡ startedLevels (unreachableLevels (site .window) (levelAt (now (lanes .entry)))) (lanesHit (site .window) (now (walk .entry)) (now (rows .exit)) (site .width) (site .height) (now (resources .entry)) (length (now (resources .entry)) / 4))) ⌝ }
+    ensures { λ _. ⌜ (entries (now (rows .exit)) ≡ rowsFilled (site .window) (boxOf (site .sources)) (boxOf (site .targets)) (entries (now (rows .entry))))
+        × (levelAt (now (lanes .exit)) ≡ startedLevels (unreachableLevels (site .window) (levelAt (now (lanes .entry))))
+        (lanesHit (site .window) (now (walk .entry)) (now (rows .exit)) (site .width) (site .height) (now (resources .entry)) (length (now (resources .entry)) / 4))) ⌝ }
 {
     let window = site.window;
     let sources = site.sources;

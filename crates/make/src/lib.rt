@@ -21,7 +21,9 @@ pub fn relax(
     pulled_up: &mut [u32],
 ) -> usize
     requires { ⌜ RelaxFits site (now lanes) (now flags) (now rows) (now versions) (now «pulled_down») (now «pulled_up») ⌝ }
-    ensures { λ r. ⌜ Relaxed (groundOf (site .window .lanes) (site .window .width + 2) (now (flags .entry)) (now (rows .entry))) (site .window .height) (quietRows site) (now (lanes .entry)) (now (versions .entry)) (now («pulled_down» .entry)) (now («pulled_up» .entry)) (now (lanes .exit)) (now (versions .exit)) (now («pulled_down» .exit)) (now («pulled_up» .exit)) r ⌝ }
+    ensures { λ r. ⌜ Relaxed (groundOf (site .window .lanes) (site .window .width + 2) (now (flags .entry)) (now (rows .entry))) (site .window .height) (quietRows site)
+        (now (lanes .entry)) (now (versions .entry)) (now («pulled_down» .entry)) (now («pulled_up» .entry))
+        (now (lanes .exit)) (now (versions .exit)) (now («pulled_down» .exit)) (now («pulled_up» .exit)) r ⌝ }
 {
     let window = site.window;
     let sources = site.sources;
@@ -63,7 +65,9 @@ pub fn make(
     pulled_up: &mut [u32],
 ) -> usize
     requires { ⌜ MakeFits site (now cells) (now resources) (lent (now lanes) (now walk) (now flags) (now rows) (now versions) (now «pulled_down») (now «pulled_up»)) ⌝ }
-    ensures { λ r. ⌜ FieldMade (siteCall site (now (cells .entry)) (now (blockers .entry)) (now (resources .entry))) (lent (now (lanes .entry)) (now (walk .entry)) (now (flags .entry)) (now (rows .entry)) (now (versions .entry)) (now («pulled_down» .entry)) (now («pulled_up» .entry))) (lent (now (lanes .exit)) (now (walk .exit)) (now (flags .exit)) (now (rows .exit)) (now (versions .exit)) (now («pulled_down» .exit)) (now («pulled_up» .exit))) r ⌝ }
+    ensures { λ r. ⌜ FieldMade (siteCall site (now (cells .entry)) (now (blockers .entry)) (now (resources .entry)))
+        (lent (now (lanes .entry)) (now (walk .entry)) (now (flags .entry)) (now (rows .entry)) (now (versions .entry)) (now («pulled_down» .entry)) (now («pulled_up» .entry)))
+        (lent (now (lanes .exit)) (now (walk .exit)) (now (flags .exit)) (now (rows .exit)) (now (versions .exit)) (now («pulled_down» .exit)) (now («pulled_up» .exit))) r ⌝ }
 {
     let window = site.window;
     let used = &mut lanes[..record::padded(window) * window.lanes];

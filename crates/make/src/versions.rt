@@ -36,7 +36,8 @@ pub fn unpulled(
     quiet: usize,
 )
     requires { ⌜ VersionBuffers height (length (now versions)) (length (now «pulled_down»)) (length (now «pulled_up»)) × (quiet ≤ height) ⌝ }
-    ensures { λ _. ⌜ BeforeSweeps height quiet (now (versions .entry)) (now («pulled_down» .entry)) (now («pulled_up» .entry)) (now (versions .exit)) (now («pulled_down» .exit)) (now («pulled_up» .exit)) ⌝ }
+    ensures { λ _. ⌜ BeforeSweeps height quiet (now (versions .entry)) (now («pulled_down» .entry)) (now («pulled_up» .entry))
+        (now (versions .exit)) (now («pulled_down» .exit)) (now («pulled_up» .exit)) ⌝ }
 {
     set(versions, 0, height + 2, 0);
     set(pulled_down, 0, quiet + 1, 0);
@@ -47,7 +48,8 @@ pub fn unpulled(
 // After the last sweep all of them are 0.
 pub fn cleared(versions: &mut [u32], pulled_down: &mut [u32], pulled_up: &mut [u32], height: usize)
     requires { ⌜ VersionBuffers height (length (now versions)) (length (now «pulled_down»)) (length (now «pulled_up»)) ⌝ }
-    ensures { λ _. ⌜ AfterSweeps height (now (versions .entry)) (now («pulled_down» .entry)) (now («pulled_up» .entry)) (now (versions .exit)) (now («pulled_down» .exit)) (now («pulled_up» .exit)) ⌝ }
+    ensures { λ _. ⌜ AfterSweeps height (now (versions .entry)) (now («pulled_down» .entry)) (now («pulled_up» .entry))
+        (now (versions .exit)) (now («pulled_down» .exit)) (now («pulled_up» .exit)) ⌝ }
 {
     set(versions, 0, height + 2, 0);
     set(pulled_down, 0, height + 2, 0);

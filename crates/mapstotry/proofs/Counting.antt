@@ -6,7 +6,7 @@ use Prim.Native.Nat.{ℕ, _+_, _-_, _≤_, _<_}
 use native.Mathlib.Omega.{arith}
 use native.Mathlib.Decide.{decLe}
 use lib.ListN.{getD}
-use lib.Dec.{T, leb, ltb, leb→le, ltb→lt}
+use lib.Dec.{T, leb, leb→le}
 use Rattle.walkgraph.specs.Lists.{tabulate}
 use Rattle.walkgraph.specs.Sweep.{PaddedWindow, valueAt, sweeps, Quiet}
 use Rattle.walkgraph.specs.Buffers.{Call, resourceCount, paddedOf, laneStart, CountIs}

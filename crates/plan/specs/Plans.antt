@@ -16,7 +16,7 @@ use Rattle.cells.specs.Boxes.{reach, boxOf}
 use Rattle.rings.specs.Rings.{AllRings}
 use Rattle.judge.specs.Grids.{greatest}
 use Rattle.window.specs.declared.record.Window.{Window}
-use Rattle.ways.specs.Buffers.{LaneCount}
+use Rattle.lane.specs.Levels.{LaneCount}
 use Rattle.plan.specs.declared.Lent.{Lent}
 use Rattle.plan.specs.declared.Plan.{Plan}
 use Rattle.plan.specs.declared.Plan.the-variants.{Refused, Nothing, Make}

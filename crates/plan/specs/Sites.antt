@@ -1,10 +1,9 @@
 -- The site of an accepted call with a resource.
 use mathlib.Core.Path.{_≡_}
-use Prim.Native.Nat.{ℕ}
 use Rattle.walkgraph.specs.Window.{window}
 use Rattle.cells.specs.Boxes.{reach, boxOf}
 use Rattle.window.specs.Windows.{OnMap, windowOver}
-use Rattle.ways.specs.Buffers.{LaneCount}
+use Rattle.lane.specs.Levels.{LaneCount}
 use Rattle.plan.specs.declared.site.Site.{Site}
 
 -- its boxes are on the map, its window is the one around them, and a cell has eight or sixteen lanes

@@ -5,7 +5,7 @@ use mathlib.Core.Bool.{Bool, true, false}
 use Prim.Native.Nat.{ℕ, _+_, _*_}
 use native.Mathlib.Nat.{add-mul}
 use Rattle.ways.specs.Row.{bothRow, Tells, OutDone, BackDone, RowDone, changed, both, kept}
-use Rattle.ways.specs.Buffers.{LaneCount}
+use Rattle.lane.specs.Levels.{LaneCount}
 
 pub two-strips : {lanes : ℕ} → LaneCount lanes → ¬ (lanes ≡ 8) → lanes ≡ 16
 two-strips l n = ⊎-elim (λ e. absurd (n e)) (λ e. e) l

@@ -9,7 +9,8 @@ use native.Mathlib.Omega.{arith}
 use lib.ListN.{getD, set}
 use Rattle.ways.specs.Row.{RowDone}
 use Rattle.row.specs.Visits.{Ground, State, first, past, Visited, done}
-use Rattle.ways.specs.Buffers.{LaneCount, RowFits}
+use Rattle.lane.specs.Levels.{LaneCount}
+use Rattle.ways.specs.Buffers.{RowFits}
 use Rattle.row.specs.Buffers.{VisitFits}
 
 some-lanes : {lanes : ℕ} → LaneCount lanes → 1 ≤ lanes

@@ -4,8 +4,8 @@ use mathlib.Core.List.{List}
 use Prim.Native.Nat.{ℕ, _+_, _-_, _*_, _≤_, _<_}
 use lib.IntN.{ℤ}
 use lib.ListN.{getD, length}
-use Rattle.lane.specs.Levels.{levelAt}
-use Rattle.ways.specs.Buffers.{LaneCount, flagAt}
+use Rattle.lane.specs.Levels.{levelAt, LaneCount}
+use Rattle.ways.specs.Buffers.{flagAt}
 use Rattle.row.specs.Visits.{Ground, State}
 
 abbrev pub groundOf : (lanes stride : ℕ) (flags rows : List ℕ) → Ground

@@ -1,9 +1,9 @@
 // One row, at either lane count, both ways.
 ghost use Prim.Native.Nat.{_*_};
 ghost use lib.ListN.{length};
-ghost use Rattle.lane.specs.Levels.{levelAt};
+ghost use Rattle.lane.specs.Levels.{levelAt, LaneCount};
 ghost use Rattle.ways.specs.Row.{OutDone, BackDone, RowDone};
-ghost use Rattle.ways.specs.Buffers.{Gates, LaneCount, flagAt, RowFits, BackFits};
+ghost use Rattle.ways.specs.Buffers.{Gates, flagAt, RowFits, BackFits};
 
 // The way out over count cells: first is the index of the first, feeding that of the cell that feeds it.
 pub fn out(

@@ -5,8 +5,7 @@ use mathlib.Core.List.{List}
 use Prim.Native.Nat.{ℕ, _+_, _-_, _*_, _^_, _≤_, _<_}
 use lib.IntN.{ℤ}
 use lib.ListN.{getD, length}
-use Rattle.lane.specs.Levels.{levelAt}
-use Rattle.ways.specs.Buffers.{LaneCount}
+use Rattle.lane.specs.Levels.{levelAt, LaneCount}
 use Rattle.row.specs.Visits.{Ground}
 use Rattle.row.specs.Buffers.{groundOf}
 use Rattle.sweep.specs.Sweeps.{Run, Sweeps}

@@ -4,7 +4,7 @@ use mathlib.Core.Path.{_≡_}
 use Prim.Native.Nat.{ℕ, _+_, _*_, _-_, _≤_}
 use native.Mathlib.Omega.{arith}
 use native.Mathlib.Decide.{decLe}
-use Rattle.walkgraph.specs.Map.{Box, In}
+use Rattle.walkgraph.specs.Map.{Box}
 use Rattle.walkgraph.specs.Window.{gap, octile, octileGap, Inside}
 use Rattle.walkgraph.proofs.Distances.{octile-l, octile-r, gap-low, gap-high}
 

@@ -1,3 +1,4 @@
+-- The mathematics of the walk graph: walks, windows, sweeps and their count, the field call and its promise, access cells, links, the disjoint set and numbering.
 pub mod Tests
 pub mod Lists
 pub mod Signed

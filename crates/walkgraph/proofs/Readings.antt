@@ -1,10 +1,9 @@
 -- A part that is read lies in the lent lanes.
-use mathlib.Core.Path.{_≡_}
-use mathlib.Core.Bool.{cond, _&&_, _||_}
+use mathlib.Core.Bool.{_&&_, _||_}
 use Prim.Native.Nat.{ℕ, suc, _+_, _*_, _-_, _≤_, _<_}
 use native.Mathlib.Nat.{suc-mul, mul-le-mul-right}
 use native.Mathlib.Omega.{arith}
-use lib.Dec.{T, leb, ltb, eqb, leb→le, ltb→lt}
+use lib.Dec.{leb, ltb, eqb, leb→le, ltb→lt}
 use Rattle.walkgraph.specs.Reading.{WindowRecord, fits, inRecord, Part, outsidePart, readPart}
 use Rattle.walkgraph.proofs.Tests.{cond-ind, and-left, and-right}
 

@@ -1,12 +1,12 @@
 -- A row of the window after its two passes, as a list.
-use mathlib.Core.Path.{_≡_, refl, sym, _∙_, ap}
-use mathlib.Core.Bool.{Bool, true, false, cond, not, _&&_}
-use mathlib.Core.List.{List, [], _∷_}
-use Prim.Native.Nat.{ℕ, zero, suc, _+_, _*_, _-_, _≤_, _<_, min}
+use mathlib.Core.Path.{_≡_, _∙_}
+use mathlib.Core.Bool.{Bool}
+use mathlib.Core.List.{List}
+use Prim.Native.Nat.{ℕ, zero, suc, _+_, _-_, _≤_, _<_}
 use native.Mathlib.Omega.{arith}
-use lib.ListN.{getD, length, List·getD-eq-default}
+use lib.ListN.{length, List·getD-eq-default}
 use lib.Dec.{T}
-use Rattle.walkgraph.specs.Lists.{tabulate, grown, grow}
+use Rattle.walkgraph.specs.Lists.{grown, grow}
 use Rattle.walkgraph.specs.Lanes.{cap, unreachable}
 use Rattle.walkgraph.specs.Sweep.{rightStep, rightward, leftStep, leftward, PaddedWindow, readRow, written, corner, cornerWest, cornerEast, relaxed}
 use Rattle.walkgraph.proofs.Lists.{getD-tabulate, length-tabulate, getD-grow}

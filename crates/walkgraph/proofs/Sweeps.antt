@@ -6,7 +6,7 @@ use mathlib.Core.List.{List, []}
 use Prim.Native.Nat.{ℕ, zero, suc, _+_, _*_, _-_, _≤_, _<_}
 use native.Mathlib.Decide.{decLe}
 use native.Mathlib.Omega.{arith}
-use lib.ListN.{getD, length, List·getD-eq-default}
+use lib.ListN.{getD, List·getD-eq-default}
 use lib.Dec.{T}
 use Rattle.walkgraph.specs.Lists.{tabulate, grow, grown}
 use Rattle.walkgraph.specs.Lanes.{cap, unreachable}

@@ -1,5 +1,4 @@
 -- Walks: their ends, taken backwards, their cells, and what they cost at least.
-use mathlib.Core.Path.{_≡_}
 use Prim.Native.Nat.{ℕ, suc, _+_, _*_, _≤_}
 use native.Mathlib.Omega.{arith}
 use Rattle.walkgraph.specs.Lanes.{cap}

@@ -1,13 +1,12 @@
 -- Document 01, the table of refusals: each number, exactly when it is given and with which place, and the order in which the library's calls judge.
-use mathlib.Core.Bool.{Bool, true, false, cond, not, _&&_, _||_}
+use mathlib.Core.Bool.{Bool, true, cond, not, _&&_, _||_}
 use mathlib.Core.List.{List, [], _∷_}
-use Prim.Native.Nat.{ℕ, zero, suc, _+_, _*_, _/_, _%_}
-use lib.ListN.{getD, length}
+use Prim.Native.Nat.{ℕ, _+_, _*_, _/_, _%_}
+use lib.ListN.{length}
 use lib.IntN.{ℤ, pos}
 use lib.Signed.{leZ, ltZ}
 use lib.Dec.{leb, ltb, eqb}
 use Rattle.walkgraph.specs.Lists.{firstFrom}
-use Rattle.walkgraph.specs.Map.{Box}
 use Rattle.walkgraph.specs.Painting.{Rectangle, rectangle}
 use Rattle.walkgraph.specs.Ring.{pixel, accessCells}
 use Rattle.walkgraph.specs.Buffers.{Call, paddedOf, paddedCells, Lent}

@@ -4,7 +4,6 @@ use mathlib.Core.Bool.{Bool, true, false, cond, _&&_}
 use mathlib.Core.List.{List, []}
 use Prim.Native.Nat.{ℕ, zero, suc, _+_, _-_, _≤_, _<_, min}
 use lib.ListN.{getD}
-use lib.Dec.{leb}
 use Rattle.walkgraph.specs.Lists.{tabulate, grown, grow}
 use Rattle.walkgraph.specs.Lanes.{unreachable}
 use Rattle.walkgraph.specs.Map.{Box, inBox}

@@ -1,6 +1,5 @@
 -- The table of gates and the flags as the definitions read them, and what the functions ask of the lengths of buffers.
 use mathlib.Core.Path.{_≡_}
-use mathlib.Core.Logic.{_⊎_}
 use mathlib.Core.List.{List}
 use Prim.Native.Nat.{ℕ, _+_, _*_, _≤_, _<_}
 use lib.IntN.{ℤ}
@@ -11,10 +10,6 @@ use Rattle.lane.specs.Levels.{levelAt}
 pub record Gates (table : List ℤ) : Type 0 where
   pub shut : (k : ℕ) → k < 8 → levelAt table k ≡ 65535
   pub through : (k : ℕ) → k < 8 → levelAt table (8 + k) ≡ 0
-
--- one strip or two
-abbrev pub LaneCount : ℕ → Type 0
-LaneCount lanes = (lanes ≡ 8) ⊎ (lanes ≡ 16)
 
 -- the flag byte of a cell
 abbrev pub flagAt : List ℕ → ℕ → ℕ

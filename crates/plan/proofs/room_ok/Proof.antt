@@ -1,5 +1,5 @@
 -- `plan::room_ok`: each length is tested in its turn, and no product is past the limits of a map.
-use mathlib.Core.Path.{_≡_, sym}
+use mathlib.Core.Path.{sym}
 use Prim.Native.Nat.{_+_, _*_, _≤_}
 use native.Mathlib.Nat.{mul-le-mul}
 use native.Mathlib.Omega.{arith}

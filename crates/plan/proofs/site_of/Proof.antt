@@ -9,7 +9,7 @@ use Rattle.rings.proofs.Sources.{same-box, sources-in-map}
 use Rattle.judge.proofs.Accepted.{Span, span}
 use Rattle.window.specs.declared.record.Window.{Window}
 use Rattle.window.specs.Windows.{windowOver}
-use Rattle.ways.specs.Buffers.{LaneCount}
+use Rattle.lane.specs.Levels.{LaneCount}
 use Rattle.plan.proofs.site_of.Statement.{statement}
 use Rattle.plan.proofs.site_of.Tie as tie
 
