@@ -1,2 +1,3 @@
--- The field call's promise from its plan.
+-- The field call's promise from its plan, and that it determines the answer.
+pub mod Answers
 pub mod Calls
