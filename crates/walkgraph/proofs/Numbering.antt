@@ -1,4 +1,4 @@
--- The field numbers are determined.
+-- The field numbers are determined, by which resources are joined.
 use mathlib.Core.Path.{_≡_, sym, _∙_, ap}
 use Prim.Native.Nat.{ℕ, zero, suc, _≤_, _<_}
 use native.Mathlib.Omega.{arith}
@@ -7,7 +7,7 @@ use Rattle.walkgraph.specs.Links.{Joined, Numbered}
 use Rattle.walkgraph.proofs.Tests.{by-cases}
 
 -- is one of f 0 .. f (m - 1) equal to k
-seek : (f : ℕ → ℕ) (k m : ℕ) → Dec ((j : ℕ) × (j < m) × (f j ≡ k))
+pub seek : (f : ℕ → ℕ) (k m : ℕ) → Dec ((j : ℕ) × (j < m) × (f j ≡ k))
 seek f k zero = no (λ t. absurd (omega (arith, t .1)))
 seek f k (suc m) =
     let ih = seek f k m in
@@ -47,3 +47,14 @@ module _ {Link : ℕ → ℕ → Type 0} {n : ℕ} where
 
   pub numbered-one : {f g : ℕ → ℕ} → Numbered Link n f → Numbered Link n g → (i : ℕ) → i < n → f i ≡ g i
   numbered-one p q i h = agree p q n (omega arith) i h
+
+-- linkings that join the same resources below n have the same numberings
+pub numbered-like : {A B : ℕ → ℕ → Type 0} {n : ℕ} {f : ℕ → ℕ} →
+    ((r s : ℕ) → r < n → s < n → Joined A r s → Joined B r s) → ((r s : ℕ) → r < n → s < n → Joined B r s → Joined A r s) → Numbered A n f → Numbered B n f
+numbered-like to fro p =
+    record {
+      same = λ r s h k e. to r s h k (p .same r s h k e);
+      only = λ r s h k j. p .only r s h k (fro r s h k j);
+      new = λ r h a. p .new r h (λ s l j. a s l (to s r (omega arith) h j));
+      high = λ r h a. p .high r h (λ s l j. a s l (to s r (omega arith) h j));
+    }
