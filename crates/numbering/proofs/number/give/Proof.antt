@@ -18,7 +18,7 @@ mul-if1 : tie.Need-mul-if1
 mul-if1 c = let b = c .before in omega (arith, root-place (b .pre .0) (b .pre .1) .1)
 
 slice-read-if1 : tie.Need-slice-read-if1
-slice-read-if1 c = let b = c .before .before in root-place (b .pre .0) (b .pre .1) .0
+slice-read-if1 c = let b = c .before .before in omega (arith, root-place (b .pre .0) (b .pre .1) .0, b .pre .0 .long, b .pre .1)
 
 cast-answers : tie.Need-cast-answers
 cast-answers c = search needs
