@@ -22,12 +22,6 @@ joined-root parents (back j) = sym (joined-root parents j)
 joined-root parents (chain i j) = joined-root parents i ∙ joined-root parents j
 
 -- ---- no number yet
-pub none-more : (l : List ℕ) (i : ℕ) → i < length l → ((j : ℕ) → j < i → of l j ≡ 65535) → (j : ℕ) → j < i + 1 → of (set l i 65535) j ≡ 65535
-none-more l i h e j k =
-    by-cases (ℕ-discrete j i)
-    (λ q. rw q (getD-set-same l i 65535 0 h))
-    (λ q. getD-set-other l i j 65535 0 q ∙ e j (omega arith))
-
 pub none-given : {parents before after : List ℕ} → Rooted parents → length before ≡ length parents → Cleared before after → Given parents after 0 0
 none-given rooted long c =
     record {

@@ -63,8 +63,8 @@ lanes-one c h d₀ d e p q = ext-getD (pos 0) d e (p .long ∙ sym (q .long)) (�
         subst (λ (z : ℕ). getD d z (pos 0) ≡ getD e z (pos 0)) (o .6) (a .2 ∙ ap (laneOf (bias (c .reach))) f ∙ sym (b .2)))
         (λ k. p .stay i (omega arith) ∙ sym (q .stay i (omega arith)))
 
--- a used part, and so every buffer of a field call, is determined
-used-one : {used : ℕ} {f : ℕ → ℕ} {b d e : List ℕ} → UsedPart used f b d → UsedPart used f b e → d ≡ e
+-- a used part is determined, and so is every buffer of a field call
+pub used-one : {used : ℕ} {f : ℕ → ℕ} {b d e : List ℕ} → UsedPart used f b d → UsedPart used f b e → d ≡ e
 used-one {used} {f} {b} {d} {e} p q = ext-getD 0 d e (p .long ∙ sym (q .long)) (λ j h. same j)
   where
     same : (j : ℕ) → getD d j 0 ≡ getD e j 0

@@ -1,4 +1,4 @@
--- The mathematics of the walk graph: walks, windows, sweeps and their count, the field call and its promise, access cells, links, the disjoint set and numbering.
+-- The mathematics of the walk graph: walks, windows, sweeps and their count, the field call and its promise, access cells, links, the disjoint set, numbering, and the fields call.
 pub mod Tests
 pub mod Lists
 pub mod Signed
@@ -33,3 +33,4 @@ pub mod AccessList
 pub mod Readings
 pub mod Promises
 pub mod AccessCall
+pub mod FieldsCall

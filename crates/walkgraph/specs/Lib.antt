@@ -14,3 +14,4 @@ pub mod Reading
 pub mod Refusals
 pub mod Promise
 pub mod AccessPromise
+pub mod FieldsPromise

@@ -2,9 +2,10 @@
 use mathlib.Core.Path.{_≡_, refl, _∙_}
 use Prim.Native.Nat.{ℕ, _-_, _≤_, _<_}
 use native.Mathlib.Omega.{arith}
-use lib.ListN.{length, length-set}
+use borrow.Author.Count.{below-more}
+use lib.ListN.{length, set, length-set}
+use lib.Seq.{getD-set-same, getD-set-other}
 use Rattle.numbering.specs.Fields.{of}
-use Rattle.numbering.proofs.Giving.{none-more}
 use Rattle.numbering.proofs.number.clear.Statement.{statement}
 use Rattle.numbering.proofs.number.clear.Tie as tie
 
@@ -31,8 +32,13 @@ loop-less c = omega arith
 
 loop-again : tie.Need-loop-again Inv-loop μ-loop
 loop-again c =
-    let l = c .before .loop in
-    (omega arith, length-set (l .answers) (l .r) 65535 ∙ l .inv .1, none-more (l .answers) (l .r) (omega arith) (l .inv .2))
+    let l = c .before .loop in (
+      omega arith,
+      length-set (l .answers) (l .r) 65535 ∙ l .inv .1,
+      below-more (λ j. of (set (l .answers) (l .r) 65535) j ≡ 65535) (l .r)
+          (λ j h. getD-set-other (l .answers) (l .r) j 65535 0 (λ e. omega (arith, e)) ∙ l .inv .2 j h)
+          (getD-set-same (l .answers) (l .r) 65535 0 (omega arith)),
+    )
 
 same-length : tie.Need-same-length Inv-loop μ-loop
 same-length c = c .before .loop .inv .1
