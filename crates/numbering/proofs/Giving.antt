@@ -51,19 +51,20 @@ module _ {parents answers : List ℕ} {m k : ℕ} (g : Given parents answers m k
   pub root-place : (root < length answers) × (root < 512)
   root-place = (omega (arith, root-in, g .long), omega (arith, root-in, g .rooted .few))
 
-  -- the root has a number exactly where an earlier resource has that root
+  -- where an earlier resource has this root, the root has its number
   has : (j : ℕ) → j < m → of parents j ≡ root → (of answers root ≡ of answers j) × (of answers root < 65535)
   has j l e =
       let s : of answers root ≡ of answers j = ap (of answers) (sym e) ∙ g .roots j l in
       (s, omega (arith, s, g .numbers .below j l, g .few, g .rooted .few))
 
+  -- where the root has no number, no earlier resource has this root, and the root itself is not earlier
   none : of answers root ≡ 65535 → (j : ℕ) → j < m → of parents j ≢ root
   none z j l e = absurd (omega (arith, z, has j l e .1))
 
   late : of answers root ≡ 65535 → m ≤ root
   late z = by-cases (decLe m root) (λ l. l) (λ l. absurd (none z root (omega arith) (g .rooted .root m h)))
 
-  -- a root that is m is the root of m
+  -- where m is a root, it is its own
   own : (r : ℕ) → r < length parents → of parents r ≡ m → root ≡ m
   own r l e = ap (of parents) (sym e) ∙ g .rooted .root r l ∙ e
 
@@ -91,9 +92,6 @@ module _ {parents answers : List ℕ} {m k : ℕ} (g : Given parents answers m k
   pub given-new : of answers root ≡ 65535 → (v w c : ℕ) → v ≡ k → w ≡ k → c ≡ suc k → Given parents (set (set answers root v) m w) (m + 1) c
   given-new z v w c e e′ e″ = rw (e, e′, e″, add-one m) made
     where
-      none-here : (j : ℕ) → j < m → of parents j ≢ root
-      none-here = none z
-
       rest : (i : ℕ) → i < m → of (twice k) i ≡ of answers i
       rest i l = twice-other k i (λ q. omega (arith, q, late z)) (λ q. omega (arith, q))
 
@@ -101,7 +99,7 @@ module _ {parents answers : List ℕ} {m k : ℕ} (g : Given parents answers m k
       roots r l =
           by-cases (ℕ-discrete r m)
           (λ q. rw q (twice-root k ∙ sym (twice-here k)))
-          (λ q. twice-other k (of parents r) (none-here r (omega arith)) (λ x. none-here r (omega arith) (x ∙ sym (own r (omega arith) x))) ∙ g .roots r (omega arith) ∙ sym (rest r (omega arith)))
+          (λ q. twice-other k (of parents r) (none z r (omega arith)) (λ x. none z r (omega arith) (x ∙ sym (own r (omega arith) x))) ∙ g .roots r (omega arith) ∙ sym (rest r (omega arith)))
 
       made : Given parents (twice k) (suc m) (suc k)
       made =
@@ -109,15 +107,16 @@ module _ {parents answers : List ℕ} {m k : ℕ} (g : Given parents answers m k
             rooted = g .rooted;
             long = twice-long k ∙ g .long;
             few = omega (arith, g .few);
-            numbers = number-new (g .numbers) rest (λ a l j. none-here a l (joined-root parents j)) (twice-here k);
+            numbers = number-new (g .numbers) rest (λ a l j. none z a l (joined-root parents j)) (twice-here k);
             roots = roots;
             free = λ i l o n. twice-other k i (λ q. n m (omega arith) (sym q)) (λ q. omega (arith, q)) ∙ g .free i (omega arith) o (λ r t. n r (omega arith));
           }
 
+  -- one store, at m
   abbrev once : List ℕ
   once = set answers m (of answers root)
 
-  -- the root has one: m takes it
+  -- the root has a number: m takes it
   pub given-old : of answers root ≢ 65535 → (v : ℕ) → v ≡ of answers root → Given parents (set answers m v) (m + 1) k
   given-old z v e = rw (e, add-one m) (by-cases (seek (of parents) root m) made (λ o. absurd (z (taken o))))
     where
