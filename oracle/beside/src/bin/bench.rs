@@ -101,6 +101,18 @@ fn field_work(map: &Map, lanes: usize) -> Work {
     })
 }
 
+/// One mineral in the map's corner with a target box of 4 by 4 cells beside it: the window is small
+/// for the map, so that reading the map is most of the work.
+fn corner_work(map: &Map, lanes: usize) -> Work {
+    Work::Field(FieldCall {
+        map: map.clone(),
+        lanes,
+        blockers: Vec::new(),
+        resources: vec![[0, 0, 16, 8]],
+        targets: [3, 0, 6, 3],
+    })
+}
+
 fn works() -> Vec<(String, Work)> {
     let mut works = Vec::new();
     let field_maps = [
@@ -118,6 +130,12 @@ fn works() -> Vec<(String, Work)> {
         }
     }
     let side = 1_024;
+    for lanes in [8, 16] {
+        works.push((
+            format!("field, {lanes} lanes, 1,024 open, in a corner"),
+            corner_work(&maps::open(side, side), lanes),
+        ));
+    }
     let join_maps = [
         ("1,024 open", maps::open(side, side)),
         ("1,024 walls 30 %", maps::random_walls(side, side, 30, 2)),
