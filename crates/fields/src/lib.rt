@@ -1,0 +1,2 @@
+// The fields call: which resources are one field.
+pub mod order;
