@@ -6,6 +6,7 @@ use lib.Arith.{digits-div, digits-mod}
 use Rattle.walkgraph.specs.Walk.{Step, Walk, on}
 use Rattle.walkgraph.specs.Links.{Linked, Joined}
 use Rattle.walkgraph.proofs.LinkSearch.{Searched, search-joined, met-linked}
+use Rattle.walkgraph.proofs.Walks.{step-sym}
 use Rattle.walkgraph.proofs.SearchTurns.{State, Turn, end-spread, end-met}
 
 module _ (w : ℕ) (Walkable : ℕ → ℕ → Type 0) (Access : ℕ → ℕ → ℕ → Type 0) (in-map : (x y : ℕ) → Walkable x y → x < w) (on-open : (r x y : ℕ) → Access r x y → Walkable x y) where
@@ -32,6 +33,9 @@ module _ (w : ℕ) (Walkable : ℕ → ℕ → Type 0) (Access : ℕ → ℕ →
       let d = digits-div v (in-map u v q) in
       record { k = k; first = rw (a, b) o; last = rw (c, d) q; step = rw (a, b, c, d) s }
 
+  adj-back : (c v : ℕ) → Adj c v → Adj v c
+  adj-back c v a = record { k = a .k; first = a .last; last = a .first; step = step-sym (a .step) }
+
   -- Near is kept by a step
   pub near-step : {r c v d : ℕ} → Near r c d → Adj c v → Near r v (suc d)
   near-step t a = record { a = t .a; b = t .b; e = t .e + a .k; source = t .source; walk = on (t .walk) (a .step) (a .last) }
@@ -40,15 +44,15 @@ module _ (w : ℕ) (Walkable : ℕ → ℕ → Type 0) (Access : ℕ → ℕ →
   pub near-linked : {r s c v d e : ℕ} → Near r c d → Adj c v → Near s v e → d + e < 32 → Linked Walkable Access r s
   near-linked t a u h = met-linked (t .source) (t .walk) (a .step) (u .source) (u .walk) h
 
-  module _ {cells : ℕ} {J : ℕ → ℕ → Type 0} {s : State} {head : ℕ} (t : Turn Adj Near cells J s head) (done : head ≡ s .tail)
+  module _ {cells : ℕ} {J : ℕ → ℕ → Type 0} {s : State} {head : ℕ} (t : Turn Adj Near cells J s head) (last : head < s .tail → s .depth (s .q head) ≡ 16)
       (seeds : (r x y : ℕ) → Access r x y → T (s .lab (y * w + x)) × (s .depth (y * w + x) ≡ 0) × J r (s .owner (y * w + x)))
       (jself : (r : ℕ) → J r r) (jback : (r u : ℕ) → J r u → J u r) (jchain : (r u v : ℕ) → J r u → J u v → J r v) where
     searched : Searched Walkable Access (λ x y. T (s .lab (y * w + x)) × Walkable x y) (λ x y. s .owner (y * w + x)) (λ x y. s .depth (y * w + x)) J
     searched =
         record {
           seeds = λ r x y a. let g = seeds r x y a in ((g .0, on-open r x y a), g .1, g .2);
-          spread = λ {x} {y} {u} {v} l h st o. let g = end-spread t done (y * w + x) (v * w + u) (l .0) h (adj-of (l .1) o st) in ((g .0, o), g .1);
-          met = λ {x} {y} {u} {v} l k st h. end-met t done (y * w + x) (v * w + u) (l .0) (k .0) (adj-of (l .1) (k .1) st) h;
+          spread = λ {x} {y} {u} {v} l h st o. let g = end-spread t last adj-back jback (y * w + x) (v * w + u) (l .0) h (adj-of (l .1) o st) in ((g .0, o), g .1);
+          met = λ {x} {y} {u} {v} l k st h. end-met t last adj-back jback (y * w + x) (v * w + u) (l .0) (k .0) (adj-of (l .1) (k .1) st) h;
           back = jback _ _;
           chain = jchain _ _ _;
         }
