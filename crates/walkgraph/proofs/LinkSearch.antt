@@ -17,6 +17,13 @@ turn-back {m = m} v (on {n = n} w s o) =
     let f : suc m + n ≡ m + suc n = omega arith in
     (r .0, rw f at (r .1))
 
+-- chains of links that are themselves chains
+pub joined-by : {Link More : ℕ → ℕ → Type 0} → ((r s : ℕ) → Link r s → Joined More r s) → {r s : ℕ} → Joined Link r s → Joined More r s
+joined-by f alone = alone
+joined-by f (linked l) = f _ _ l
+joined-by f (back j) = back (joined-by f j)
+joined-by f (chain j k) = chain (joined-by f j) (joined-by f k)
+
 -- what the search leaves: which cells it labels, with which resource, at which depth, and J, what it joins
 pub record Searched (Walkable : ℕ → ℕ → Type 0) (Access : ℕ → ℕ → ℕ → Type 0) (Labelled : ℕ → ℕ → Type 0) (owner depth : ℕ → ℕ → ℕ) (J : ℕ → ℕ → Type 0) : Type 0 where
   pub seeds : (r x y : ℕ) → Access r x y → Labelled x y × (depth x y ≡ 0) × J r (owner x y)
