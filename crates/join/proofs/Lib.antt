@@ -1,3 +1,4 @@
 -- The laws that the proofs of this crate cite.
 pub mod Growing
 pub mod Picking
+pub mod Visiting

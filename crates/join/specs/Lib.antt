@@ -1,4 +1,5 @@
--- What the contracts of this crate speak of: a cell's state, how the classes grow, and which moves are picked.
+-- What the contracts of this crate speak of: a cell's state, how the classes grow,which moves are picked, and what one move does.
 pub mod Labels
 pub mod Growth
 pub mod Picks
+pub mod Visits

@@ -1,3 +1,4 @@
 // Fields of resources: cells are labelled to depth 16 from all access cells at once, and labels that meet across a step are joined.
 pub mod meet;
 pub mod pick;
+pub mod visit;
