@@ -233,6 +233,23 @@ join-turn f t =
       deep = t .deep;
     }
 
+-- the same steps and walks by other names
+pub turn-over : {Adj Adj′ : ℕ → ℕ → Type 0} {Near Near′ : ℕ → ℕ → ℕ → Type 0} {cells : ℕ} {J : ℕ → ℕ → Type 0} {s : State} {head : ℕ} → ((c v : ℕ) → Adj′ c v → Adj c v) →
+    ((r c d : ℕ) → Near r c d → Near′ r c d) → Turn Adj Near cells J s head → Turn Adj′ Near′ cells J s head
+turn-over f g t =
+    record {
+      queued = t .queued;
+      all = t .all;
+      room = t .room;
+      head≤ = t .head≤;
+      order = t .order;
+      wave = t .wave;
+      done = λ i v h a. t .done i v h (f _ _ a);
+      met = λ i v h a o b. t .met i v h (f _ _ a) o b;
+      sound = λ c l. g _ _ _ (t .sound c l);
+      deep = t .deep;
+    }
+
 -- ---- the head's cell is done: each neighbour is labelled, and what it looks at is joined
 pub next-turn : {Adj : ℕ → ℕ → Type 0} {Near : ℕ → ℕ → ℕ → Type 0} {cells : ℕ} {J : ℕ → ℕ → Type 0} {s : State} {head : ℕ} → Turn Adj Near cells J s head → head < s .tail →
     ((v : ℕ) → Adj (s .q head) v → T (s .lab v) × (s .depth v ≤ suc (s .depth (s .q head)))) →

@@ -29,6 +29,16 @@ widen f (here o) = here (f _ _ o)
 widen f (on w p o) = on (widen f w) p (f _ _ o)
 
 -- one more step
+-- more is walkable
+pub step-over : {Walkable Walkable′ : ℕ → ℕ → Type 0} {x y u v k : ℕ} → ((x y : ℕ) → Walkable x y → Walkable′ x y) → Step Walkable x y u v k → Step Walkable′ x y u v k
+step-over f (straight e) = straight e
+step-over f (diagonal e h o q) = diagonal e h (f _ _ o) (f _ _ q)
+
+pub walk-over : {Walkable Walkable′ : ℕ → ℕ → Type 0} {a b x y n c : ℕ} → ((x y : ℕ) → Walkable x y → Walkable′ x y) → Walk Walkable Walkable a b x y n c →
+    Walk Walkable′ Walkable′ a b x y n c
+walk-over f (here o) = here (f _ _ o)
+walk-over f (on w s o) = on (walk-over f w) (step-over f s) (f _ _ o)
+
 pub extend : {Walkable Allowed Source : ℕ → ℕ → Type 0} {x y c u v k : ℕ} → WalkCosts Walkable Allowed Source x y c → Step Walkable x y u v k → Allowed u v → WalkCosts Walkable Allowed Source u v (c + k)
 extend r s o = record { a = r .a; b = r .b; steps = suc (r .steps); source = r .source; walk = on (r .walk) s o }
 
