@@ -2,3 +2,4 @@
 pub mod Growing
 pub mod Picking
 pub mod Visiting
+pub mod Moves

@@ -1,5 +1,6 @@
--- What the contracts of this crate speak of: a cell's state, how the classes grow,which moves are picked, and what one move does.
+-- What the contracts of this crate speak of: a cell's state, how the classes grow,which moves are picked,what one move does, and the search.
 pub mod Labels
 pub mod Growth
 pub mod Picks
 pub mod Visits
+pub mod Search

@@ -1,0 +1,65 @@
+-- The search over states and a queue, in the words of the law of its turns. The queue holds points: 1,024 times the row, plus the column.
+use mathlib.Core.Path.{_≡_}
+use mathlib.Core.Logic.{_⊎_}
+use mathlib.Core.Bool.{Bool, _&&_}
+use mathlib.Core.List.{List}
+use Prim.Native.Nat.{ℕ, suc, _+_, _*_, _-_, _/_, _%_, _≤_, _<_}
+use lib.Dec.{T, ltb}
+use lib.ListN.{length}
+use Rattle.walkgraph.specs.Links.{Linked}
+use Rattle.walkgraph.proofs.DisjointSet.{Same}
+use Rattle.walkgraph.proofs.SearchTurns.{State, Turn}
+use Rattle.walkgraph.proofs.SearchEnd.{Adj, Near}
+use Rattle.disjoint.specs.Forest.{of}
+use Rattle.join.specs.Labels.{ownerOf, depthOf, Label}
+
+abbrev pub cellOf : ℕ → ℕ → ℕ
+cellOf width point = point / 1024 * width + point % 1024
+
+-- the cell is labelled
+unfoldable pub isLabel : ℕ → Bool
+isLabel state = ltb 0 state && ltb state 65535
+
+abbrev pub stateOf : ℕ → List ℕ → List ℕ → ℕ → State
+stateOf width states queue tail =
+    record {
+      lab = λ c. isLabel (of states c);
+      owner = λ c. ownerOf (of states c);
+      depth = λ c. depthOf (of states c);
+      q = λ i. cellOf width (of queue i);
+      tail = tail;
+    }
+
+-- the cell (x, y) is walkable
+pub record Walks (width height : ℕ) (states : List ℕ) (x y : ℕ) : Type 0 where
+  pub column : x < width
+  pub row : y < height
+  pub walks : 0 < of states (y * width + x)
+
+-- the cell (x, y) is labelled with resource r at depth 0
+pub record Seeds (width height : ℕ) (states : List ℕ) (r x y : ℕ) : Type 0 where
+  pub walks : Walks width height states x y
+  pub owner : ownerOf (of states (y * width + x)) ≡ r
+  pub depth : depthOf (of states (y * width + x)) ≡ 0
+
+abbrev pub Links : ℕ → ℕ → List ℕ → ℕ → ℕ → Type 0
+Links width height states = Linked (Walks width height states) (Seeds width height states)
+
+-- a turn of the search: labels are of resources, points are of the map, and the law's own state
+pub record Searching (width height : ℕ) (states queue parents : List ℕ) (tail head : ℕ) : Type 0 where
+  pub wide : (1 ≤ width) × (width ≤ 1024)
+  pub tall : (1 ≤ height) × (height ≤ 1024)
+  pub cells : length states ≡ height * width
+  pub room : length queue ≡ height * width
+  pub few : length parents ≤ 512
+  pub labels : (c : ℕ) → T (isLabel (of states c)) → Label (length parents) (of states c)
+  pub points : (i : ℕ) → i < tail → (of queue i % 1024 < width) × (of queue i / 1024 < height)
+  pub turn : Turn (Adj width (Walks width height states)) (Near width (Walks width height states) (Seeds width height states)) (length states) (Same (of parents)) (stateOf width states queue tail) head
+
+-- the eight directions as a table: by how many columns and rows from the cell before, and how far along the states
+pub record Table (width : ℕ) (over down steps : List ℕ) : Type 0 where
+  pub across : (k : ℕ) → k < 8 → of over k ≤ 2
+  pub along : (k : ℕ) → k < 8 → of down k ≤ 2
+  pub moves : (k : ℕ) → k < 8 → of over k ≡ 1 → of down k ≡ 1 → ⊥
+  pub offset : (k : ℕ) → k < 8 → of steps k ≡ of down k * width + of over k
+  pub every : (a b : ℕ) → a ≤ 2 → b ≤ 2 → (a ≡ 1 → b ≡ 1 → ⊥) → (k : ℕ) × (k < 8) × (of over k ≡ a) × (of down k ≡ b)
