@@ -3,3 +3,4 @@ pub mod Growing
 pub mod Picking
 pub mod Visiting
 pub mod Moves
+pub mod Searching

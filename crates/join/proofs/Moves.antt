@@ -44,8 +44,17 @@ moves : (x a : ℕ) → 1 ≤ x + a → a ≤ 2 → (a ≡ 1 → ⊥) → distan
 unfolding distance
 moves x a h k n = omega arith
 
-module _ (width height : ℕ) (states : List ℕ) (x y a b : ℕ) (in-x : x < width) (in-y : y < height) (low-x : 1 ≤ x + a) (high-x : x + a ≤ width) (low-y : 1 ≤ y + b)
-    (high-y : y + b ≤ height) (small-a : a ≤ 2) (small-b : b ≤ 2) where
+-- a move that stays in the map
+pub record Inside (width height x y a b : ℕ) : Type 0 where
+  pub low-x : 1 ≤ x + a
+  pub high-x : x + a ≤ width
+  pub low-y : 1 ≤ y + b
+  pub high-y : y + b ≤ height
+  pub small-a : a ≤ 2
+  pub small-b : b ≤ 2
+  pub apart : a ≡ 1 → b ≡ 1 → ⊥
+
+module _ (width height : ℕ) (states : List ℕ) (x y a b : ℕ) (in-x : x < width) (in-y : y < height) (m : Inside width height x y a b) where
   abbrev u : ℕ
   u = x + a - 1
 
@@ -53,10 +62,10 @@ module _ (width height : ℕ) (states : List ℕ) (x y a b : ℕ) (in-x : x < wi
   v = y + b - 1
 
   -- an open move is a step
-  pub open-step : (a ≡ 1 → b ≡ 1 → ⊥) → 0 < of states (y * width + x) → T (opens states (v * width + u) (v * width + x) (y * width + u)) →
+  pub open-step : 0 < of states (y * width + x) → T (opens states (v * width + u) (v * width + x) (y * width + u)) →
       Adj width (Walks width height states) (y * width + x) (v * width + u)
   unfolding opens
-  open-step apart here t =
+  open-step here t =
       let p = and-left (ltb 0 (of states (v * width + u))) _ t in
       let q = and-right (ltb 0 (of states (v * width + u))) _ t in
       let far : Walks width height states u v = record { column = omega arith; row = omega arith; walks = ltb→lt 0 _ p } in
@@ -70,26 +79,20 @@ module _ (width height : ℕ) (states : List ℕ) (x y a b : ℕ) (in-x : x < wi
       let h = digits-div v lu in
       by-cases (ℕ-discrete a 1)
       (λ i.
-      let p : distance x u + distance y v ≡ 1 = omega (arith, stays x a i, moves y b low-y small-b (apart i)) in
+      let p : distance x u + distance y v ≡ 1 = omega (arith, stays x a i, moves y b (m .low-y) (m .small-b) (m .apart i)) in
       record { k = 500; first = rw (e, f) near; last = rw (g, h) far; step = rw (e, f, g, h) (straight p) })
       (λ i.
       by-cases (ℕ-discrete b 1)
       (λ j.
-      let p : distance x u + distance y v ≡ 1 = omega (arith, stays y b j, moves x a low-x small-a i) in
+      let p : distance x u + distance y v ≡ 1 = omega (arith, stays y b j, moves x a (m .low-x) (m .small-a) i) in
       record { k = 500; first = rw (e, f) near; last = rw (g, h) far; step = rw (e, f, g, h) (straight p) })
-      (λ j. record { k = 707; first = rw (e, f) near; last = rw (g, h) far; step = rw (e, f, g, h) (diagonal (moves x a low-x small-a i) (moves y b low-y small-b j) side side2) }))
+      (λ j. record { k = 707; first = rw (e, f) near; last = rw (g, h) far; step = rw (e, f, g, h) (diagonal (moves x a (m .low-x) (m .small-a) i) (moves y b (m .low-y) (m .small-b) j) side side2) }))
 
 -- a step is an open move
 pub record Opened (width height : ℕ) (states : List ℕ) (x y t : ℕ) : Type 0 where
   pub a : ℕ
   pub b : ℕ
-  pub low-x : 1 ≤ x + a
-  pub high-x : x + a ≤ width
-  pub low-y : 1 ≤ y + b
-  pub high-y : y + b ≤ height
-  pub small-a : a ≤ 2
-  pub small-b : b ≤ 2
-  pub apart : a ≡ 1 → b ≡ 1 → ⊥
+  pub inside : Inside width height x y a b
   pub cell : (y + b - 1) * width + (x + a - 1) ≡ t
   pub opened : T (opens states ((y + b - 1) * width + (x + a - 1)) ((y + b - 1) * width + x) (y * width + (x + a - 1)))
 
@@ -120,13 +123,15 @@ module _ {width height : ℕ} {states : List ℕ} {x y u v : ℕ} (near : Walks 
       record {
         a = u + 1 - x;
         b = v + 1 - y;
-        low-x = e .0;
-        high-x = omega (arith, e .3, far .column);
-        low-y = f .0;
-        high-y = omega (arith, f .3, far .row);
-        small-a = e .1;
-        small-b = f .1;
-        apart = n;
+        inside = record {
+          low-x = e .0;
+          high-x = omega (arith, e .3, far .column);
+          low-y = f .0;
+          high-y = omega (arith, f .3, far .row);
+          small-a = e .1;
+          small-b = f .1;
+          apart = n;
+        };
         cell = rw (e .2, f .2);
         opened = rw (e .2, f .2) (three states (v * width + u) (v * width + x) (y * width + u) (far .walks) p q);
       }

@@ -12,6 +12,7 @@ use Rattle.walkgraph.proofs.SearchTurns.{State, Turn}
 use Rattle.walkgraph.proofs.SearchEnd.{Adj, Near}
 use Rattle.disjoint.specs.Forest.{of}
 use Rattle.join.specs.Labels.{ownerOf, depthOf, Label}
+use Rattle.join.specs.Growth.{Grown}
 
 abbrev pub cellOf : ℕ → ℕ → ℕ
 cellOf width point = point / 1024 * width + point % 1024
@@ -52,9 +53,21 @@ pub record Searching (width height : ℕ) (states queue parents : List ℕ) (tai
   pub cells : length states ≡ height * width
   pub room : length queue ≡ height * width
   pub few : length parents ≤ 512
+  pub fits : (c : ℕ) → of states c ≤ 65535
   pub labels : (c : ℕ) → T (isLabel (of states c)) → Label (length parents) (of states c)
   pub points : (i : ℕ) → i < tail → (of queue i % 1024 < width) × (of queue i / 1024 < height)
   pub turn : Turn (Adj width (Walks width height states)) (Near width (Walks width height states) (Seeds width height states)) (length states) (Same (of parents)) (stateOf width states queue tail) head
+
+-- a move in a turn: labels stay, and where the move was open, the next cell is labelled and its label has met
+pub record Moved (width height : ℕ) (states queue parents : List ℕ) (tail head state next : ℕ) (opened : Bool) (states′ queue′ parents′ ranks′ : List ℕ) (tail′ : ℕ) : Type 0 where
+  pub searching : Searching width height states′ queue′ parents′ tail′ head
+  pub grown : Grown (Links width height states′) parents parents′ ranks′
+  pub links : (r s : ℕ) → Links width height states r s → Links width height states′ r s
+  pub kept : (c : ℕ) → T (isLabel (of states c)) → of states′ c ≡ of states c
+  pub walks : (c : ℕ) → 0 < of states′ c → 0 < of states c
+  pub places : (i : ℕ) → i < tail → of queue′ i ≡ of queue i
+  pub more : tail ≤ tail′
+  pub ends : T opened → T (isLabel (of states′ next)) × (depthOf state + depthOf (of states′ next) < 32 → Same (of parents′) (ownerOf state) (ownerOf (of states′ next)))
 
 -- the eight directions as a table: by how many columns and rows from the cell before, and how far along the states
 pub record Table (width : ℕ) (over down steps : List ℕ) : Type 0 where
