@@ -72,6 +72,9 @@ same-parent {p} f i j h l e =
         let r = f .sized .«at» (of p a) (f .ranked .below a b) in
         by-cases (ℕ-discrete (of p a) a) (λ q. rw q (rw q at r)) (λ n. up n r)
 
+pub same-self : {p k : List ℕ} → Forest p k → (i : ℕ) → i < length p → Same (of p) i i
+same-self f i h = record { r = f .root i; left = f .sized .«at» i h; right = f .sized .«at» i h }
+
 -- ---- two labels meet
 module _ {p k : List ℕ} {state other : ℕ} (f : Forest p k) (a : Label (length p) state) (b : Label (length p) other) where
   pub met-already : of p (ownerOf state) ≡ of p (ownerOf other) → Met p p k state other

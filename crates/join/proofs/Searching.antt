@@ -6,7 +6,7 @@ use mathlib.Core.List.{List}
 use Prim.Native.Nat.{ℕ, suc, _+_, _*_, _-_, _/_, _%_, _≤_, _<_}
 use native.Mathlib.Decide.{decLe, ℕ-discrete}
 use native.Mathlib.Omega.{arith}
-use lib.Dec.{T, ltb, ltb→lt, lt→ltb}
+use lib.Dec.{T, ltb, ltb→lt, lt→ltb, T-not}
 use lib.ListN.{getD, length, set, length-set}
 use lib.Seq.{getD-set-same, getD-set-other}
 use borrow.Author.Tests.{le-ltb}
@@ -20,7 +20,7 @@ use Rattle.join.specs.Labels.{ownerOf, depthOf, Label}
 use Rattle.join.specs.Growth.{Grown, Close, Met}
 use Rattle.join.specs.Visits.{opens, MayVisit, Visited, shut, labelled, met}
 use Rattle.join.specs.Search.{cellOf, isLabel, stateOf, Walks, Seeds, Links, Searching, Moved}
-use Rattle.join.proofs.Growing.{grown-none, grown-more}
+use Rattle.join.proofs.Growing.{grown-none, grown-more, same-self}
 use Rattle.join.proofs.Moves.{point-next, Inside, open-step}
 
 -- ---- labels
@@ -149,3 +149,153 @@ module _ {width height : ℕ} {states queue parents : List ℕ} {tail head : ℕ
           room = λ t e. omega (arith, push-room (S .turn) next next-in (no-label _ e), S .cells, S .room);
           labels = λ t n. S .labels next (met-label t n);
         }
+
+    moved-shut : T (not (opens states next (v * width + x) (y * width + u))) →
+        Moved width height states queue parents tail head state next (opens states next (v * width + x) (y * width + u)) states queue parents ranks tail
+    moved-shut n =
+        record {
+          searching = S;
+          grown = grown-none forest;
+          links = λ r s l. l;
+          kept = λ c t. refl;
+          walks = λ c h. h;
+          places = λ i h. refl;
+          more = omega arith;
+          ends = λ t. absurd (T-not (opens states next (v * width + x) (y * width + u)) n t);
+        }
+
+    moved-met : {parents′ ranks′ : List ℕ} → T (opens states next (v * width + x) (y * width + u)) → of states next ≢ 65535 → Met parents parents′ ranks′ state (of states next) →
+        Moved width height states queue parents tail head state next (opens states next (v * width + x) (y * width + u)) states queue parents′ ranks′ tail
+    moved-met {parents′} t n g =
+        let l = met-label t n in
+        let size = g .grown .size in
+        record {
+          searching = record {
+            wide = S .wide;
+            tall = S .tall;
+            cells = S .cells;
+            room = S .room;
+            few = omega (arith, S .few);
+            fits = S .fits;
+            labels = λ c i. rw size (S .labels c i);
+            points = S .points;
+            turn = join-turn (g .grown .keeps) (S .turn);
+          };
+          grown = grown-more (λ r s c. linked-by r s c) (g .grown);
+          links = λ r s l. l;
+          kept = λ c t. refl;
+          walks = λ c h. h;
+          places = λ i h. refl;
+          more = omega arith;
+          ends = λ _. (l, g .joins);
+        }
+      where
+        linked-by : (r s : ℕ) → Close state (of states next) r s → Links width height states r s
+        linked-by r s c =
+            rw (c .left, c .right)
+            (near-linked (S .turn .sound (y * width + x) here-label) (step t) (S .turn .sound next (met-label t n)) (c .short))
+
+    module _ (t : T (opens states next (v * width + x) (y * width + u))) (new : of states next ≡ 65535) where
+      own : Label (length parents) state
+      own = S .labels _ here-label
+
+      abbrev states′ : List ℕ
+      states′ = set states next (state + 1)
+
+      abbrev queue′ : List ℕ
+      queue′ = set queue tail to
+
+      room : tail < length queue
+      room = may-visit .room t new
+
+      deep : depthOf (state + 1) ≡ 0 → ⊥
+      deep e = omega arith
+
+      new-at : of states′ next ≡ state + 1
+      new-at = getD-set-same states next (state + 1) 0 next-in
+
+      old-at : (c : ℕ) → c ≢ next → of states′ c ≡ of states c
+      old-at c n = getD-set-other states next c (state + 1) 0 n
+
+      new-label : T (isLabel (state + 1))
+      new-label = is-label (state + 1) (omega arith) (omega (arith, own .last, S .few))
+
+      same-owner : ownerOf (state + 1) ≡ ownerOf state
+      same-owner = omega arith
+
+      one-deeper : depthOf (state + 1) ≡ suc (depthOf state)
+      one-deeper = omega arith
+
+      push : Push (stateOf width states queue tail) (stateOf width states′ queue′ (tail + 1)) (ownerOf state) (suc (depthOf state)) next
+      push =
+          record {
+            new = no-label _ new;
+            lab = rw new-at new-label;
+            labs = λ c n. rw (old-at c n);
+            owner = rw new-at same-owner;
+            owners = λ c n. rw (old-at c n);
+            depth = rw new-at one-deeper;
+            depths = λ c n. rw (old-at c n);
+            tail = omega arith;
+            last = rw (getD-set-same queue tail to 0 room, to-is .0, to-is .1);
+            rest = λ i h. rw (getD-set-other queue tail i to 0 (λ e. omega arith));
+          }
+
+      kept-label : (c : ℕ) → T (isLabel (of states c)) → of states′ c ≡ of states c
+      kept-label c l = old-at c (λ e. T-not (isLabel (of states next)) (no-label _ new) (rw e at l))
+
+      turned : Turn (Adj width (Walks width height states′)) (Near width (Walks width height states′) (Seeds width height states′)) (length states′) (Same (of parents)) (stateOf width states′ queue′ (tail + 1)) head
+      turned =
+          rw (length-set states next (state + 1))
+          (turn-over
+          (λ c v a. adj-over (walks-off width height states next (state + 1) new next-in (omega arith) deep) a)
+          (λ r c d n. near-over (walks-on width height states next (state + 1) new next-in (omega arith) deep) (seeds-on width height states next (state + 1) new next-in (omega arith) deep) n)
+          (step-turn (S .turn) more shallow push next-in (near-step (S .turn .sound (y * width + x) here-label) (step t))))
+
+      labels′ : (c : ℕ) → T (isLabel (of states′ c)) → Label (length parents) (of states′ c)
+      labels′ c l =
+          by-cases (ℕ-discrete c next)
+          (λ e. rw (e, new-at) (record { first = omega (arith, own .first); last = omega (arith, own .last) }))
+          (λ n. rw (old-at c n) (S .labels c (rw (old-at c n) at l)))
+
+      points′ : (i : ℕ) → i < tail + 1 → (of queue′ i % 1024 < width) × (of queue′ i / 1024 < height)
+      points′ i h =
+          by-cases (ℕ-discrete i tail)
+          (λ e. rw (e, getD-set-same queue tail to 0 room) (omega (arith, to-is .0, in-column), omega (arith, to-is .1, in-row)))
+          (λ n. rw (getD-set-other queue tail i to 0 n) (S .points i (omega arith)))
+
+      fits′ : (c : ℕ) → of states′ c ≤ 65535
+      fits′ c =
+          by-cases (ℕ-discrete c next)
+          (λ e. rw (e, new-at) (omega (arith, own .last, S .few)))
+          (λ n. rw (old-at c n) (S .fits c))
+
+      moved-labelled : Moved width height states queue parents tail head state next (opens states next (v * width + x) (y * width + u)) states′ queue′ parents ranks (tail + 1)
+      moved-labelled =
+          record {
+            searching = record {
+              wide = S .wide;
+              tall = S .tall;
+              cells = length-set states next (state + 1) ∙ S .cells;
+              room = length-set queue tail to ∙ S .room;
+              few = S .few;
+              fits = fits′;
+              labels = labels′;
+              points = points′;
+              turn = turned;
+            };
+            grown = grown-none forest;
+            links = λ r s l. linked-over (walks-on width height states next (state + 1) new next-in (omega arith) deep) (seeds-on width height states next (state + 1) new next-in (omega arith) deep) l;
+            kept = kept-label;
+            walks = λ c h. by-cases (ℕ-discrete c next) (λ e. rw (e, new) (omega arith)) (λ n. rw (old-at c n) at h);
+            places = λ i h. getD-set-other queue tail i to 0 (λ e. omega arith);
+            more = omega arith;
+            ends = λ _. (rw new-at new-label, λ h. rw (new-at, same-owner) (same-self forest (ownerOf state) (omega (arith, own .first, own .last))));
+          }
+
+    pub visit-moved : {states′ queue′ parents′ ranks′ : List ℕ} {tail′ : ℕ} →
+        Visited states queue parents ranks tail state next to (v * width + x) (y * width + u) states′ queue′ parents′ ranks′ tail′ →
+        Moved width height states queue parents tail head state next (opens states next (v * width + x) (y * width + u)) states′ queue′ parents′ ranks′ tail′
+    visit-moved (shut n) = moved-shut n
+    visit-moved (labelled t e) = moved-labelled t e
+    visit-moved (met t n g) = moved-met t n g
