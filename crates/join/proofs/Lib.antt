@@ -4,3 +4,4 @@ pub mod Picking
 pub mod Visiting
 pub mod Moves
 pub mod Searching
+pub mod Listing

@@ -14,6 +14,10 @@ one b = cond b 1 0
 unfoldable pub within : ℕ → ℕ → Bool
 within place size = leb 1 place && leb place size
 
+-- a column or a row, counted from 0, has one on each side
+unfoldable pub inner : ℕ → ℕ → Bool
+inner place size = ltb 0 place && ltb (place + 1) size
+
 -- the highest state that a cell does not look at
 unfoldable pub highest : ℕ → ℕ
 highest state = cond (eqb (state % 32) 15) 0 (state / 32 * 32 + 31)
