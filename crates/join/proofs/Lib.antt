@@ -5,3 +5,4 @@ pub mod Visiting
 pub mod Moves
 pub mod Searching
 pub mod Listing
+pub mod Rounds

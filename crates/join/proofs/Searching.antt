@@ -19,7 +19,7 @@ use Rattle.disjoint.specs.Forest.{of, Forest}
 use Rattle.join.specs.Labels.{ownerOf, depthOf, Label}
 use Rattle.join.specs.Growth.{Grown, Close, Met}
 use Rattle.join.specs.Visits.{opens, MayVisit, Visited, shut, labelled, met}
-use Rattle.join.specs.Search.{cellOf, isLabel, stateOf, Walks, Seeds, Links, Searching, Moved}
+use Rattle.join.specs.Search.{cellOf, isLabel, stateOf, Walks, Seeds, Links, Searching, Alike, Moved}
 use Rattle.join.proofs.Growing.{grown-none, grown-more, same-self}
 use Rattle.join.proofs.Moves.{point-next, Inside, open-step}
 
@@ -39,6 +39,22 @@ is-label s h k = and-pair (ltb 0 s) _ (lt→ltb 0 s h) (lt→ltb s 65535 k)
 pub no-label : (s : ℕ) → s ≡ 65535 → T (not (isLabel s))
 unfolding isLabel
 no-label s e = rw e tt
+
+-- ---- states that leave the same cells walkable
+pub alike-self : {width height : ℕ} {states : List ℕ} → Alike width height states states
+alike-self = record { on = λ x y w. w; off = λ x y w. w; seeds-on = λ r x y a. a; seeds-off = λ r x y a. a }
+
+pub alike-chain : {width height : ℕ} {s t u : List ℕ} → Alike width height s t → Alike width height t u → Alike width height s u
+alike-chain f g =
+    record {
+      on = λ x y w. g .on x y (f .on x y w);
+      off = λ x y w. f .off x y (g .off x y w);
+      seeds-on = λ r x y a. g .seeds-on r x y (f .seeds-on r x y a);
+      seeds-off = λ r x y a. f .seeds-off r x y (g .seeds-off r x y a);
+    }
+
+pub alike-links : {width height : ℕ} {s t : List ℕ} → Alike width height s t → (a b : ℕ) → Links width height s a b → Links width height t a b
+alike-links f a b l = linked-over (f .on) (f .seeds-on) l
 
 -- ---- a cell that had no label is labelled, and not as an access cell
 module _ (width height : ℕ) (states : List ℕ) (t s : ℕ) (was : of states t ≡ 65535) (in-map : t < length states) (pos : 0 < s) (deep : depthOf s ≡ 0 → ⊥) where
@@ -156,7 +172,7 @@ module _ {width height : ℕ} {states queue parents : List ℕ} {tail head : ℕ
         record {
           searching = S;
           grown = grown-none forest;
-          links = λ r s l. l;
+          alike = alike-self;
           kept = λ c t. refl;
           walks = λ c h. h;
           places = λ i h. refl;
@@ -182,7 +198,7 @@ module _ {width height : ℕ} {states queue parents : List ℕ} {tail head : ℕ
             turn = join-turn (g .grown .keeps) (S .turn);
           };
           grown = grown-more (λ r s c. linked-by r s c) (g .grown);
-          links = λ r s l. l;
+          alike = alike-self;
           kept = λ c t. refl;
           walks = λ c h. h;
           places = λ i h. refl;
@@ -285,7 +301,12 @@ module _ {width height : ℕ} {states queue parents : List ℕ} {tail head : ℕ
               turn = turned;
             };
             grown = grown-none forest;
-            links = λ r s l. linked-over (walks-on width height states next (state + 1) new next-in (omega arith) deep) (seeds-on width height states next (state + 1) new next-in (omega arith) deep) l;
+            alike = record {
+              on = walks-on width height states next (state + 1) new next-in (omega arith) deep;
+              off = walks-off width height states next (state + 1) new next-in (omega arith) deep;
+              seeds-on = seeds-on width height states next (state + 1) new next-in (omega arith) deep;
+              seeds-off = seeds-off width height states next (state + 1) new next-in (omega arith) deep;
+            };
             kept = kept-label;
             walks = λ c h. by-cases (ℕ-discrete c next) (λ e. rw (e, new) (omega arith)) (λ n. rw (old-at c n) at h);
             places = λ i h. getD-set-other queue tail i to 0 (λ e. omega arith);

@@ -10,7 +10,7 @@ use Rattle.walkgraph.specs.Links.{Linked}
 use Rattle.walkgraph.proofs.DisjointSet.{Same}
 use Rattle.walkgraph.proofs.SearchTurns.{State, Turn}
 use Rattle.walkgraph.proofs.SearchEnd.{Adj, Near}
-use Rattle.disjoint.specs.Forest.{of}
+use Rattle.disjoint.specs.Forest.{of, Forest}
 use Rattle.join.specs.Labels.{ownerOf, depthOf, Label}
 use Rattle.join.specs.Growth.{Grown}
 use Rattle.join.specs.Picks.{isInside, highest}
@@ -59,11 +59,18 @@ pub record Searching (width height : ℕ) (states queue parents : List ℕ) (tai
   pub points : (i : ℕ) → i < tail → (of queue i % 1024 < width) × (of queue i / 1024 < height)
   pub turn : Turn (Adj width (Walks width height states)) (Near width (Walks width height states) (Seeds width height states)) (length states) (Same (of parents)) (stateOf width states queue tail) head
 
+-- the same cells are walkable, and the same are access cells
+pub record Alike (width height : ℕ) (states states′ : List ℕ) : Type 0 where
+  pub on : (x y : ℕ) → Walks width height states x y → Walks width height states′ x y
+  pub off : (x y : ℕ) → Walks width height states′ x y → Walks width height states x y
+  pub seeds-on : (r x y : ℕ) → Seeds width height states r x y → Seeds width height states′ r x y
+  pub seeds-off : (r x y : ℕ) → Seeds width height states′ r x y → Seeds width height states r x y
+
 -- a move in a turn: labels stay, and where the move was open, the next cell is labelled and its label has met
 pub record Moved (width height : ℕ) (states queue parents : List ℕ) (tail head state next : ℕ) (opened : Bool) (states′ queue′ parents′ ranks′ : List ℕ) (tail′ : ℕ) : Type 0 where
   pub searching : Searching width height states′ queue′ parents′ tail′ head
   pub grown : Grown (Links width height states′) parents parents′ ranks′
-  pub links : (r s : ℕ) → Links width height states r s → Links width height states′ r s
+  pub alike : Alike width height states states′
   pub kept : (c : ℕ) → T (isLabel (of states c)) → of states′ c ≡ of states c
   pub walks : (c : ℕ) → 0 < of states′ c → 0 < of states c
   pub places : (i : ℕ) → i < tail → of queue′ i ≡ of queue i
@@ -93,3 +100,19 @@ pub record Listed (width height : ℕ) (states over down steps : List ℕ) (x y 
   pub only : (j : ℕ) → j < count → (of list j < 8) × T (isInside width height x y over down (of list j))
   pub every : (k : ℕ) → k < 8 → T (isInside width height x y over down k) → highest state < of states ((y * width + x) + of steps k - width - 1) →
       (j : ℕ) × (j < count) × (of list j ≡ k)
+
+-- a cell is taken from the queue, and is not of depth 16
+pub record Turning (width height : ℕ) (states queue parents ranks over down steps list : List ℕ) (tail head : ℕ) : Type 0 where
+  pub searching : Searching width height states queue parents tail head
+  pub forest : Forest parents ranks
+  pub more : head < tail
+  pub shallow : depthOf (of states (cellOf width (of queue head))) < 16
+  pub table : Table width over down steps
+  pub long : length list ≡ 9
+
+-- its moves are done
+pub record Expanded (width height : ℕ) (states parents states′ queue′ parents′ ranks′ list′ : List ℕ) (tail′ head : ℕ) : Type 0 where
+  pub searching : Searching width height states′ queue′ parents′ tail′ (suc head)
+  pub grown : Grown (Links width height states′) parents parents′ ranks′
+  pub alike : Alike width height states states′
+  pub long : length list′ ≡ 9
