@@ -4,10 +4,13 @@ use mathlib.Core.Logic.{_≢_, _⊎_, inl, inr, ⊎-elim}
 use mathlib.Core.Bool.{Bool, _&&_}
 use mathlib.Core.List.{List}
 use Prim.Native.Nat.{ℕ, suc, _+_, _*_, _-_, _/_, _%_, _≤_, _<_}
+use native.Mathlib.Nat.{div-add-mod'}
 use native.Mathlib.Decide.{decLe, ℕ-discrete}
 use native.Mathlib.Omega.{arith}
 use lib.Dec.{T, leb, ltb, leb→le, ltb→lt, lt→ltb}
+use lib.Arith.{digits-div, digits-mod}
 use lib.ListN.{length}
+use borrow.Author.Tests.{eq-eqb, ne-eqb}
 use Rattle.walkgraph.proofs.Tests.{by-cases, and-left, and-right, and-pair}
 use Rattle.walkgraph.proofs.DisjointSet.{Same}
 use Rattle.walkgraph.proofs.SearchTurns.{Looks, next-turn}
@@ -19,7 +22,7 @@ use Rattle.join.specs.Picks.{within, isInside, highest}
 use Rattle.join.specs.Visits.{opens, MayVisit, Visited}
 use Rattle.join.specs.Search.{cellOf, isLabel, stateOf, Walks, Links, Searching, Alike, Moved, Table, Listed, Turning, Expanded}
 use Rattle.join.proofs.Growing.{grown-none, grown-more, grown-chain, same-self}
-use Rattle.join.proofs.Moves.{Inside, Opened, step-opened}
+use Rattle.join.proofs.Moves.{next-is, Inside, Opened, step-opened}
 use Rattle.join.proofs.Listing.{within-is}
 use Rattle.join.proofs.Searching.{label-low, label-high, is-label, alike-self, alike-chain, alike-links, here-label, may-visit, visit-moved}
 
@@ -132,3 +135,115 @@ module _ {width height : ℕ} {states₀ queue₀ parents₀ ranks₀ over down 
       round-moved v =
           rw (same-point, same-state) at
           (visit-moved (R .searching) more-now (R .grown .forest) shallow m (rw (← same-state, ← same-point) at v))
+
+      -- one more move is done
+      pub round-on : {states′ queue′ parents′ ranks′ : List ℕ} {tail′ : ℕ} →
+          Visited states queue parents ranks tail s (nextOf width x y a b) (of queue₀ head + (b * 1024 + a) - 1025) ((y + b - 1) * width + x) (y * width + (x + a - 1)) states′ queue′ parents′ ranks′ tail′ →
+          Round width height states₀ queue₀ parents₀ over down list tail₀ head states′ queue′ parents′ ranks′ tail′ (j + 1)
+      round-on {states′} {queue′} {parents′} {ranks′} {tail′} v =
+          let M = round-moved v in
+          record {
+            searching = M .searching;
+            grown = grown-chain (grown-more (alike-links (M .alike)) (R .grown)) (M .grown);
+            alike = alike-chain (R .alike) (M .alike);
+            kept = λ c t. M .kept c (rw (R .kept c t) t) ∙ R .kept c t;
+            walks = λ c h. R .walks c (M .walks c h);
+            places = λ i h. M .places i (omega (arith, R .more)) ∙ R .places i h;
+            more = omega (arith, R .more, M .more);
+            ended = ended M;
+          }
+        where
+          ended : Moved width height states queue parents tail head s (nextOf width x y a b) (openOf width states x y a b) states′ queue′ parents′ ranks′ tail′ → (i : ℕ) → i < j + 1 →
+              Ended width states′ parents′ x y s (of over (of list i)) (of down (of list i))
+          ended M i h =
+              by-cases (ℕ-discrete i j)
+              (λ e. rw (e, here) (λ t. M .ends (open-before width x y a b states states′ (M .walks) t)))
+              (λ n t.
+              let r = R .ended i (omega arith) (open-before width x y (of over (of list i)) (of down (of list i)) states states′ (M .walks) t) in
+              let f = M .kept (nextOf width x y (of over (of list i)) (of down (of list i))) (r .0) in
+              rw f (r .0, λ h. M .grown .keeps _ _ (r .1 h)))
+
+  -- ---- the cell is done
+  module _ {list states queue parents ranks : List ℕ} {tail count : ℕ} (L : Listed width height states₀ over down steps x y s list count)
+      (R : Round width height states₀ queue₀ parents₀ over down list tail₀ head states queue parents ranks tail count) where
+    -- a state that is not looked at is a label, and not above the cell's own
+    quiet : (o : ℕ) → 0 < o → o ≤ highest s → T (isLabel o) × (ownerOf o ≤ ownerOf s) × (depthOf s ≢ 15)
+    unfolding highest
+    quiet o h k =
+        by-cases (ℕ-discrete (s % 32) 15)
+        (λ e. absurd (omega (arith, rw (eq-eqb (s % 32) 15 e) at k)))
+        (λ n.
+        let l = rw (ne-eqb (s % 32) 15 n) at k in
+        let own = G .searching .labels (y * width + x) (here-label (G .searching) (G .more)) in
+        (is-label o h (omega (arith, own .last, G .searching .few)), omega arith, n))
+
+    -- each open move is listed and done, or its state is not looked at
+    looked : (a b : ℕ) → Inside width height x y a b → T (openOf width states x y a b) →
+        T (isLabel (of states (nextOf width x y a b))) ×
+        ((ownerOf s ≤ ownerOf (of states (nextOf width x y a b))) ⊎ (depthOf s ≡ 15) → depthOf s + depthOf (of states (nextOf width x y a b)) < 32 →
+        Same (of parents) (ownerOf s) (ownerOf (of states (nextOf width x y a b))))
+    unfolding isInside opens
+    looked a b m t =
+        let k = G .table .every a b (m .small-a) (m .small-b) (m .apart) in
+        let at-k : (j : ℕ) × (j < count) × (of list j ≡ k .0) → T (isLabel (of states (nextOf width x y a b))) × ((ownerOf s ≤ ownerOf (of states (nextOf width x y a b))) ⊎ (depthOf s ≡ 15) → depthOf s + depthOf (of states (nextOf width x y a b)) < 32 → Same (of parents) (ownerOf s) (ownerOf (of states (nextOf width x y a b)))) =
+        λ j. let e = rw (j .2, k .2, k .3) at (R .ended (j .0) (j .1)) in let r = e t in (r .0, λ _ h. r .1 h) in
+        let n = nextOf width x y a b in
+        by-cases (decLe (suc (highest s)) (of states₀ n))
+        (λ h. at-k (L .every (k .0) (k .1) (inside-test a b m (k .0) (k .2) (k .3)) (rw (reached a b m (k .0) (k .1) (k .2) (k .3)) h)))
+        (λ h.
+        let q = quiet (of states₀ n) (R .walks n (open-low t)) (omega arith) in
+        let e = R .kept n (q .0) in
+        rw e (q .0, λ o d. ⊎-elim (λ g. same-owner (of states₀ n) (q .1) g) (λ g. absurd (q .2 g)) o))
+      where
+        open-low : T (openOf width states x y a b) → 0 < of states (nextOf width x y a b)
+        open-low t = ltb→lt 0 _ (and-left (ltb 0 (of states (nextOf width x y a b))) _ t)
+
+        inside-test : (a b : ℕ) → Inside width height x y a b → (k : ℕ) → of over k ≡ a → of down k ≡ b → T (isInside width height x y over down k)
+        inside-test a b m k e f =
+            and-pair (within (x + of over k) width) _ (rw e (within-is (x + a) width (m .low-x) (m .high-x))) (rw f (within-is (y + b) height (m .low-y) (m .high-y)))
+
+        reached : (a b : ℕ) → Inside width height x y a b → (k : ℕ) → k < 8 → of over k ≡ a → of down k ≡ b → (y * width + x) + of steps k - width - 1 ≡ nextOf width x y a b
+        reached a b m k h e f = rw (G .table .offset k h, e, f) (next-is width x y a b (m .low-x) (m .low-y))
+
+        same-owner : (n : ℕ) → ownerOf n ≤ ownerOf s → ownerOf s ≤ ownerOf n → Same (of parents) (ownerOf s) (ownerOf n)
+        same-owner n g h =
+            let own = G .searching .labels (y * width + x) (here-label (G .searching) (G .more)) in
+            let e : ownerOf n ≡ ownerOf s = omega arith in
+            rw e (same-self (R .grown .forest) (ownerOf s) (omega (arith, own .first, own .last, R .grown .size)))
+
+    opened : (v : ℕ) → Adj width (Walks width height states) (y * width + x) v → Opened width height states x y v
+    opened v a =
+        let h = G .searching .points head (G .more) .0 in
+        rw (digits-mod y h, digits-div y h, div-add-mod' v width) at (step-opened (a .first) (a .last) (a .step))
+
+    seen : (v : ℕ) → Adj width (Walks width height states) (y * width + x) v →
+        T (isLabel (of states v)) ×
+        ((ownerOf s ≤ ownerOf (of states v)) ⊎ (depthOf s ≡ 15) → depthOf s + depthOf (of states v) < 32 → Same (of parents) (ownerOf s) (ownerOf (of states v)))
+    seen v a = let o = opened v a in rw (o .cell) at (looked (o .a) (o .b) (o .inside) (o .opened))
+
+    done : (v : ℕ) → Adj width (Walks width height states) (y * width + x) v → T (isLabel (of states v)) × (depthOf (of states v) ≤ suc (depthOf (of states (y * width + x))))
+    done v a =
+        let l = seen v a .0 in
+        let t = R .searching .turn in
+        let i = t .all v l in
+        (l, rw (i .2, same-point R) at (t .wave (i .0) (more-now R) (i .1)))
+
+    pub round-done : Expanded width height states₀ parents₀ states queue parents ranks list tail head
+    round-done =
+        let S = R .searching in
+        record {
+          searching = record {
+            wide = S .wide;
+            tall = S .tall;
+            cells = S .cells;
+            room = S .room;
+            few = S .few;
+            fits = S .fits;
+            labels = S .labels;
+            points = S .points;
+            turn = next-turn (S .turn) (more-now R) (rw (same-point R) done) (rw (same-point R, same-state R) (λ v a. seen v a .1));
+          };
+          grown = R .grown;
+          alike = R .alike;
+          long = L .long;
+        }
