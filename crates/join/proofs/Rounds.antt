@@ -4,7 +4,7 @@ use mathlib.Core.Logic.{_≢_, _⊎_, inl, inr, ⊎-elim}
 use mathlib.Core.Bool.{Bool, _&&_}
 use mathlib.Core.List.{List}
 use Prim.Native.Nat.{ℕ, suc, _+_, _*_, _-_, _/_, _%_, _≤_, _<_}
-use native.Mathlib.Nat.{div-add-mod'}
+use native.Mathlib.Nat.{div-add-mod', mul-le-mul-right}
 use native.Mathlib.Decide.{decLe, ℕ-discrete}
 use native.Mathlib.Omega.{arith}
 use lib.Dec.{T, leb, ltb, leb→le, ltb→lt, lt→ltb}
@@ -13,18 +13,18 @@ use lib.ListN.{length}
 use borrow.Author.Tests.{eq-eqb, ne-eqb}
 use Rattle.walkgraph.proofs.Tests.{by-cases, and-left, and-right, and-pair}
 use Rattle.walkgraph.proofs.DisjointSet.{Same}
-use Rattle.walkgraph.proofs.SearchTurns.{Looks, next-turn}
+use Rattle.walkgraph.proofs.SearchTurns.{Looks, next-turn, queue-in}
 use Rattle.walkgraph.proofs.SearchEnd.{Adj}
 use Rattle.disjoint.specs.Forest.{of, Forest}
 use Rattle.join.specs.Labels.{ownerOf, depthOf, Label}
 use Rattle.join.specs.Growth.{Grown}
 use Rattle.join.specs.Picks.{within, isInside, highest}
 use Rattle.join.specs.Visits.{opens, MayVisit, Visited}
-use Rattle.join.specs.Search.{cellOf, isLabel, stateOf, Walks, Links, Searching, Alike, Moved, Table, Listed, Turning, Expanded}
+use Rattle.join.specs.Search.{cellOf, isLabel, stateOf, Walks, Links, Searching, Alike, Moved, Table, OnMap, Listed, Turning, Expanded}
 use Rattle.join.proofs.Growing.{grown-none, grown-more, grown-chain, same-self}
-use Rattle.join.proofs.Moves.{next-is, Inside, Opened, step-opened}
+use Rattle.join.proofs.Moves.{row-moved, next-is, Inside, Opened, step-opened}
 use Rattle.join.proofs.Listing.{within-is}
-use Rattle.join.proofs.Searching.{label-low, label-high, is-label, alike-self, alike-chain, alike-links, here-label, may-visit, visit-moved}
+use Rattle.join.proofs.Searching.{label-low, label-high, is-label, alike-self, alike-chain, alike-links, here-label, here-in, may-visit, visit-moved}
 
 -- the cells of a move from (x, y) by a - 1 columns and b - 1 rows
 abbrev pub nextOf : ℕ → ℕ → ℕ → ℕ → ℕ → ℕ
@@ -247,3 +247,66 @@ module _ {width height : ℕ} {states₀ queue₀ parents₀ ranks₀ over down 
           alike = R .alike;
           long = L .long;
         }
+
+-- ---- the numbers of a move: all are small, and no difference stops at 0
+pub record Sizes (width p k a b step : ℕ) : Type 0 where
+  pub low : k < 8
+  pub small-a : a ≤ 2
+  pub small-b : b ≤ 2
+  pub low-x : 1 ≤ p % 1024 + a
+  pub low-y : 1 ≤ p / 1024 + b
+  pub rows : p / 1024 < 1024
+  pub wide : width ≤ 1024
+  pub along : step ≤ 2050
+  pub cell : p / 1024 * width + p % 1024 < 1048576
+  pub enough : width + 1 ≤ (p / 1024 * width + p % 1024) + step
+  pub next : (p / 1024 * width + p % 1024) + step - width - 1 ≡ nextOf width (p % 1024) (p / 1024) a b
+  pub side : nextOf width (p % 1024) (p / 1024) a b + 1 - a ≡ (p / 1024 + b - 1) * width + p % 1024
+  pub before : a ≤ nextOf width (p % 1024) (p / 1024) a b + 1
+  pub second : (p / 1024 * width + p % 1024) + a - 1 ≡ p / 1024 * width + (p % 1024 + a - 1)
+
+module _ {width height : ℕ} {states queue parents ranks over down steps list₀ : List ℕ} {tail head : ℕ}
+    (G : Turning width height states queue parents ranks over down steps list₀ tail head) where
+  pub head-cell : OnMap width height states (of queue head % 1024) (of queue head / 1024)
+  head-cell =
+      let S = G .searching in
+      let q = S .points head (G .more) in
+      record { column = q .0; row = q .1; wide = S .wide .1; tall = S .tall .1; cells = S .cells }
+
+  pub head-queued : head < length queue
+  head-queued = let S = G .searching in omega (arith, G .more, queue-in (S .turn), S .cells, S .room)
+
+  pub few-cells : length states ≤ 1048576
+  few-cells =
+      let S = G .searching in
+      let h : height * width ≤ 1024 * width = mul-le-mul-right {m = height} {n = 1024} width (S .tall .1) in
+      omega (arith, S .cells, S .wide .1)
+
+module _ {width height : ℕ} {states queue parents ranks over down steps list₀ list : List ℕ} {tail head count : ℕ}
+    (G : Turning width height states queue parents ranks over down steps list₀ tail head)
+    (L : Listed width height states over down steps (of queue head % 1024) (of queue head / 1024) (of states (cellOf width (of queue head))) list count) where
+  pub sizes : (j : ℕ) → j < count → Sizes width (of queue head) (of list j) (of over (of list j)) (of down (of list j)) (of steps (of list j))
+  sizes j h =
+      let o = L .only j h in
+      let k = of list j in
+      let m = inside-is (G .table) k (o .0) (o .1) in
+      let p = of queue head in
+      let e = G .table .offset k (o .0) in
+      let w = G .searching .wide .1 in
+      let r = row-moved width (p / 1024) (of down k) (m .low-y) in
+      record {
+        low = o .0;
+        small-a = m .small-a;
+        small-b = m .small-b;
+        low-x = m .low-x;
+        low-y = m .low-y;
+        rows = omega (arith, head-cell G .row, head-cell G .tall);
+        wide = w;
+        along = omega (arith, e, m .small-a, w, mul-le-mul-right {m = of down k} {n = 2} width (m .small-b));
+        cell = omega (arith, few-cells G, here-in (G .searching) (G .more));
+        enough = omega (arith, e, r, m .low-x);
+        next = rw e (next-is width (p % 1024) (p / 1024) (of over k) (of down k) (m .low-x) (m .low-y));
+        side = omega (arith, m .low-x);
+        before = omega (arith, m .low-x);
+        second = omega (arith, m .low-x);
+      }

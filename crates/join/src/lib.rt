@@ -1,4 +1,5 @@
 // Fields of resources: cells are labelled to depth 16 from all access cells at once, and labels that meet across a step are joined.
+pub mod expand;
 pub mod list;
 pub mod meet;
 pub mod pick;

@@ -7,7 +7,7 @@ use native.Mathlib.Decide.{decLe, ℕ-discrete}
 use native.Mathlib.Omega.{arith}
 use lib.Dec.{T, T-not}
 use Rattle.walkgraph.proofs.Tests.{by-cases}
-use Rattle.walkgraph.proofs.Tally.{tally, tally-flip, tally-lt}
+use Rattle.walkgraph.proofs.Tally.{tally, tally-le, tally-flip, tally-lt}
 
 -- a state of the search: which cells are labelled, by which resource and how deep; the queue, its head and its tail
 pub record State : Type 0 where
@@ -92,6 +92,10 @@ pub record Push (s s′ : State) (r d v : ℕ) : Type 0 where
 pub push-room : {Adj : ℕ → ℕ → Type 0} {Near : ℕ → ℕ → ℕ → Type 0} {cells : ℕ} {J : ℕ → ℕ → Type 0} {s : State} {head : ℕ} → Turn Adj Near cells J s head →
     (v : ℕ) → v < cells → T (not (s .lab v)) → s .tail < cells
 push-room {cells = cells} {s = s} t v h n = omega (arith, t .room, tally-lt (s .lab) cells v h n)
+
+-- and holds no more than the map's cells
+pub queue-in : {Adj : ℕ → ℕ → Type 0} {Near : ℕ → ℕ → ℕ → Type 0} {cells : ℕ} {J : ℕ → ℕ → Type 0} {s : State} {head : ℕ} → Turn Adj Near cells J s head → s .tail ≤ cells
+queue-in {cells = cells} {s = s} t = omega (arith, t .room, tally-le (s .lab) cells)
 
 -- it is no shallower than what is in the queue, and at most one deeper than the head
 module _ {Adj : ℕ → ℕ → Type 0} {Near : ℕ → ℕ → ℕ → Type 0} {cells : ℕ} {J : ℕ → ℕ → Type 0} {s s′ : State} {head r d v : ℕ} (t : Turn Adj Near cells J s head)
