@@ -6,3 +6,5 @@ pub mod Moves
 pub mod Searching
 pub mod Listing
 pub mod Rounds
+pub mod Running
+pub mod Directions

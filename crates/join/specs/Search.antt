@@ -116,3 +116,21 @@ pub record Expanded (width height : ℕ) (states parents states′ queue′ pare
   pub grown : Grown (Links width height states′) parents parents′ ranks′
   pub alike : Alike width height states states′
   pub long : length list′ ≡ 9
+
+-- access cells are labelled, and no cell has been taken from the queue
+pub record Seeded (width height : ℕ) (states queue parents ranks : List ℕ) (seeds : ℕ) : Type 0 where
+  pub searching : Searching width height states queue parents seeds 0
+  pub forest : Forest parents ranks
+
+-- the search after some cells
+pub record Running (width height : ℕ) (states₀ parents₀ states queue parents ranks : List ℕ) (tail head : ℕ) : Type 0 where
+  pub searching : Searching width height states queue parents tail head
+  pub grown : Grown (Links width height states) parents₀ parents ranks
+  pub alike : Alike width height states₀ states
+
+-- and at its end: no cell is left in the queue, or the next one has depth 16
+pub record Ran (width height : ℕ) (states₀ parents₀ states queue parents ranks : List ℕ) : Type 0 where
+  pub tail : ℕ
+  pub head : ℕ
+  pub running : Running width height states₀ parents₀ states queue parents ranks tail head
+  pub last : head < tail → depthOf (of states (cellOf width (of queue head))) ≡ 16

@@ -3,4 +3,5 @@ pub mod expand;
 pub mod list;
 pub mod meet;
 pub mod pick;
+pub mod search;
 pub mod visit;
