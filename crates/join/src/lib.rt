@@ -3,5 +3,6 @@ pub mod expand;
 pub mod list;
 pub mod meet;
 pub mod pick;
+pub mod plant;
 pub mod search;
 pub mod visit;
