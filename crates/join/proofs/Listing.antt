@@ -29,8 +29,10 @@ module _ {width height : ℕ} {states over down steps : List ℕ} {x y : ℕ} (m
   pub at-edge : Edge x y over down
   at-edge = record { column = omega (arith, m .column, m .wide); row = omega (arith, m .row, m .tall); across = t .across; along = t .along }
 
-  pub around : T (inner x width) → T (inner y height) → Around states width (y * width + x) steps
-  around p q =
+  pub around : T (inner x width && inner y height) → Around states width (y * width + x) steps
+  around t′ =
+      let p = and-left (inner x width) _ t′ in
+      let q = and-right (inner x width) _ t′ in
       let lx = inner-low x width p in
       let hx = inner-high x width p in
       let ly = inner-low y height q in
@@ -54,13 +56,13 @@ module _ {width height : ℕ} {states over down steps : List ℕ} {x y : ℕ} (m
       (within-is (x + of over k) width (omega (arith, inner-low x width p)) (omega (arith, inner-high x width p, t .across k h)))
       (within-is (y + of down k) height (omega (arith, inner-low y height q)) (omega (arith, inner-high y height q, t .along k h)))
 
-  pub listed-near : {state low : ℕ} {list : List ℕ} {count : ℕ} → T (inner x width) → T (inner y height) → low ≡ highest state → Picked (isNear states width (y * width + x) steps low) 8 list count →
+  pub listed-near : {state low : ℕ} {list : List ℕ} {count : ℕ} → T (inner x width && inner y height) → low ≡ highest state → Picked (isNear states width (y * width + x) steps low) 8 list count →
       Listed width height states over down steps x y state list count
   unfolding isNear
-  listed-near {state} {low} i j e p =
+  listed-near {state} {low} i e p =
       record {
         long = p .long;
         few = p .few;
-        only = λ k h. let r = p .only k h in (r .0, inside-all i j _ (r .0));
+        only = λ k h. let r = p .only k h in (r .0, inside-all (and-left (inner x width) _ i) (and-right (inner x width) _ i) _ (r .0));
         every = λ k h o l. p .every k h (lt→ltb low _ (rw e l));
       }

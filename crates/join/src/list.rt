@@ -1,6 +1,7 @@
 // The moves that a cell makes, listed.
 use crate::pick;
 ghost use mathlib.Core.Path.{_≡_};
+ghost use mathlib.Core.Bool.{_&&_};
 ghost use Prim.Native.Nat.{_≤_, _<_};
 ghost use lib.ListN.{length};
 ghost use Rattle.join.specs.Picks.{inner};
@@ -15,6 +16,17 @@ pub fn inner(place: usize, size: usize) -> bool
         return false;
     }
     place + 1 < size
+}
+
+// A cell has eight neighbours.
+pub fn central(width: usize, height: usize, x: usize, y: usize) -> bool
+    requires { ⌜ (x < width) × (y < height) ⌝ }
+    ensures { λ r. ⌜ r ≡ (inner x width && inner y height) ⌝ }
+{
+    if !inner(x, width) {
+        return false;
+    }
+    inner(y, height)
 }
 
 // Lists the moves from the cell (x, y) with that state: at the map's edge all that stay in it, else those to states that it looks at; answers how many there are.
@@ -33,10 +45,7 @@ pub fn listed(
     requires { ⌜ OnMap width height (now states) x y × Table width (now over) (now down) (now steps) × (length (now list) ≡ 9) ⌝ }
     ensures { λ r. ⌜ Listed width height (now (states .entry)) (now (over .entry)) (now (down .entry)) (now (steps .entry)) x y state (now (list .exit)) r ⌝ }
 {
-    if !inner(x, width) {
-        return pick::edge(width, height, x, y, over, down, list);
-    }
-    if !inner(y, height) {
+    if !central(width, height, x, y) {
         return pick::edge(width, height, x, y, over, down, list);
     }
     pick::near(

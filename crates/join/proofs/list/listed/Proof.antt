@@ -6,8 +6,8 @@ use borrow.Author.Needs.{needs}
 use Rattle.join.proofs.list.listed.Statement.{statement}
 use Rattle.join.proofs.list.listed.Tie as tie
 
-inner-requires : tie.Need-inner-requires
-inner-requires c κs = search needs
+central-requires : tie.Need-central-requires
+central-requires c κs = search needs
 
 edge-requires : tie.Need-edge-requires
 edge-requires c κs = let p = c .before .before .before .before .pre in (at-edge (p .0) (p .1), p .2)
@@ -15,42 +15,30 @@ edge-requires c κs = let p = c .before .before .before .before .pre in (at-edge
 returns : tie.Need-returns
 returns c = let p = c .before .before .before .before .before .pre in listed-edge (p .0) (p .1) (c .edge .ensures)
 
-inner-requires-2 : tie.Need-inner-requires-2
-inner-requires-2 c κs = search needs
-
-edge-requires-2 : tie.Need-edge-requires-2
-edge-requires-2 c κs = let p = c .before .before .before .before .before .before .pre in (at-edge (p .0) (p .1), p .2)
-
-returns-2 : tie.Need-returns-2
-returns-2 c = let p = c .before .before .before .before .before .before .before .pre in listed-edge (p .0) (p .1) (c .edge2 .ensures)
-
 mul-near : tie.Need-mul-near
-mul-near c = omega (arith, flat-in (c .before .before .before .before .before .pre .0) (c .before .before .before .before .before .pre .1), c .before .before .before .before .before .good .0 .0)
+mul-near c = omega (arith, flat-in (c .before .before .before .pre .0) (c .before .before .before .pre .1), c .before .before .before .good .0 .0)
 
 add-near : tie.Need-add-near
-add-near c = omega (arith, flat-in (c .before .before .before .before .before .pre .0) (c .before .before .before .before .before .pre .1), c .before .before .before .before .before .good .0 .0)
+add-near c = omega (arith, flat-in (c .before .before .before .pre .0) (c .before .before .before .pre .1), c .before .before .before .good .0 .0)
 
 highest-requires : tie.Need-highest-requires
 highest-requires c κs = search needs
 
 near-requires : tie.Need-near-requires
-near-requires c κs = let p = c .before .before .before .before .before .before .before .pre in (around (p .0) (p .1) (is-open _ (c .before .before .before .before .before .inner .ensures) (c .before .before .before .before .if1 .left)) (is-open _ (c .before .before .before .inner2 .ensures) (c .before .before .if2 .left)), p .2)
+near-requires c κs = let p = c .before .before .before .before .before .pre in (around (p .0) (p .1) (is-open _ (c .before .before .before .central .ensures) (c .before .before .if1 .left)), p .2)
 
-returns-3 : tie.Need-returns-3
-returns-3 c = let p = c .before .before .before .before .before .before .before .before .pre in listed-near (p .0) (p .1) (is-open _ (c .before .before .before .before .before .before .inner .ensures) (c .before .before .before .before .before .if1 .left)) (is-open _ (c .before .before .before .before .inner2 .ensures) (c .before .before .before .if2 .left)) (c .before .before .highest .ensures) (c .near .ensures)
+returns-2 : tie.Need-returns-2
+returns-2 c = let p = c .before .before .before .before .before .before .pre in listed-near (p .0) (p .1) (is-open _ (c .before .before .before .before .central .ensures) (c .before .before .before .if1 .left)) (c .before .before .highest .ensures) (c .near .ensures)
 
 pub listed-spec : {M : Type 1} → statement M
 listed-spec =
     tie.close
     (tie.spec
-    inner-requires
+    central-requires
     edge-requires
     returns
-    inner-requires-2
-    edge-requires-2
-    returns-2
     mul-near
     add-near
     highest-requires
     near-requires
-    returns-3)
+    returns-2)
