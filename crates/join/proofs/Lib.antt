@@ -8,3 +8,4 @@ pub mod Listing
 pub mod Rounds
 pub mod Running
 pub mod Directions
+pub mod Planting

@@ -56,8 +56,8 @@ alike-chain f g =
 pub alike-links : {width height : ℕ} {s t : List ℕ} → Alike width height s t → (a b : ℕ) → Links width height s a b → Links width height t a b
 alike-links f a b l = linked-over (f .on) (f .seeds-on) l
 
--- ---- a cell that had no label is labelled, and not as an access cell
-module _ (width height : ℕ) (states : List ℕ) (t s : ℕ) (was : of states t ≡ 65535) (in-map : t < length states) (pos : 0 < s) (deep : depthOf s ≡ 0 → ⊥) where
+-- ---- a cell that had no label is labelled
+module _ (width height : ℕ) (states : List ℕ) (t s : ℕ) (was : of states t ≡ 65535) (in-map : t < length states) (pos : 0 < s) where
   abbrev after : List ℕ
   after = set states t s
 
@@ -92,8 +92,9 @@ module _ (width height : ℕ) (states : List ℕ) (t s : ℕ) (was : of states t
       (λ e. absurd (omega (arith, a .depth, ap (λ i. depthOf (of states i)) e, ap depthOf was)))
       (λ n. record { walks = walks-on x y (a .walks); owner = rw (at-old c n) (a .owner); depth = rw (at-old c n) (a .depth) })
 
-  pub seeds-off : (r x y : ℕ) → Seeds width height after r x y → Seeds width height states r x y
-  seeds-off r x y a =
+  -- and not as an access cell
+  pub seeds-off : (depthOf s ≡ 0 → ⊥) → (r x y : ℕ) → Seeds width height after r x y → Seeds width height states r x y
+  seeds-off deep r x y a =
       let c = y * width + x in
       by-cases (ℕ-discrete c t)
       (λ e. absurd (deep (rw (e, at-new) at (a .depth))))
@@ -264,8 +265,8 @@ module _ {width height : ℕ} {states queue parents : List ℕ} {tail head : ℕ
       turned =
           rw (length-set states next (state + 1))
           (turn-over
-          (λ c v a. adj-over (walks-off width height states next (state + 1) new next-in (omega arith) deep) a)
-          (λ r c d n. near-over (walks-on width height states next (state + 1) new next-in (omega arith) deep) (seeds-on width height states next (state + 1) new next-in (omega arith) deep) n)
+          (λ c v a. adj-over (walks-off width height states next (state + 1) new next-in (omega arith)) a)
+          (λ r c d n. near-over (walks-on width height states next (state + 1) new next-in (omega arith)) (seeds-on width height states next (state + 1) new next-in (omega arith)) n)
           (step-turn (S .turn) more shallow push next-in (near-step (S .turn .sound (y * width + x) here-label) (step t))))
 
       labels′ : (c : ℕ) → T (isLabel (of states′ c)) → Label (length parents) (of states′ c)
@@ -302,9 +303,9 @@ module _ {width height : ℕ} {states queue parents : List ℕ} {tail head : ℕ
             };
             grown = grown-none forest;
             alike = record {
-              on = walks-on width height states next (state + 1) new next-in (omega arith) deep;
-              off = walks-off width height states next (state + 1) new next-in (omega arith) deep;
-              seeds-on = seeds-on width height states next (state + 1) new next-in (omega arith) deep;
+              on = walks-on width height states next (state + 1) new next-in (omega arith);
+              off = walks-off width height states next (state + 1) new next-in (omega arith);
+              seeds-on = seeds-on width height states next (state + 1) new next-in (omega arith);
               seeds-off = seeds-off width height states next (state + 1) new next-in (omega arith) deep;
             };
             kept = kept-label;

@@ -117,6 +117,12 @@ pub record Expanded (width height : ℕ) (states parents states′ queue′ pare
   pub alike : Alike width height states states′
   pub long : length list′ ≡ 9
 
+-- some access cells are labelled: all in the queue have depth 0
+pub record Planting (width height : ℕ) (states queue parents ranks : List ℕ) (tail : ℕ) : Type 0 where
+  pub searching : Searching width height states queue parents tail 0
+  pub forest : Forest parents ranks
+  pub flat : (i : ℕ) → i < tail → depthOf (of states (cellOf width (of queue i))) ≡ 0
+
 -- access cells are labelled, and no cell has been taken from the queue
 pub record Seeded (width height : ℕ) (states queue parents ranks : List ℕ) (seeds : ℕ) : Type 0 where
   pub searching : Searching width height states queue parents seeds 0
