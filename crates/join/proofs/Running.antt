@@ -1,16 +1,23 @@
 -- The search, cell after cell, to its end.
 use mathlib.Core.Path.{_≡_, refl, sym, _∙_}
 use mathlib.Core.List.{List}
-use Prim.Native.Nat.{ℕ, suc, _+_, _≤_, _<_}
+use Prim.Native.Nat.{ℕ, suc, _+_, _*_, _≤_, _<_}
+use native.Mathlib.Decide.{decLe, ℕ-discrete}
 use native.Mathlib.Numerals.{add-one}
 use native.Mathlib.Omega.{arith}
-use lib.ListN.{length}
+use lib.Dec.{T}
+use lib.ListN.{length, List·getD-eq-default}
+use Rattle.walkgraph.specs.Links.{Joined, linked}
+use Rattle.walkgraph.proofs.Tests.{by-cases}
+use Rattle.walkgraph.proofs.LinkSearch.{joined-by}
+use Rattle.walkgraph.proofs.DisjointSet.{Root, top, up, Same, same-back, same-chain}
 use Rattle.walkgraph.proofs.SearchTurns.{queue-in}
+use Rattle.walkgraph.proofs.SearchEnd.{joined}
 use Rattle.disjoint.specs.Forest.{of, Forest}
 use Rattle.join.specs.Labels.{depthOf}
-use Rattle.join.specs.Search.{cellOf, Searching, Table, Turning, Expanded, Seeded, Running, Ran}
-use Rattle.join.proofs.Growing.{grown-none, grown-more, grown-chain}
-use Rattle.join.proofs.Searching.{alike-self, alike-chain, alike-links, here-label}
+use Rattle.join.specs.Search.{cellOf, isLabel, Walks, Seeds, Links, Searching, Table, Turning, Expanded, Seeded, Running, Ran}
+use Rattle.join.proofs.Growing.{grown-none, grown-more, grown-chain, same-self}
+use Rattle.join.proofs.Searching.{alike-self, alike-chain, alike-links, here-label, is-label}
 
 pub running-none : {width height : ℕ} {states queue parents ranks : List ℕ} {seeds : ℕ} → Seeded width height states queue parents ranks seeds →
     Running width height states parents states queue parents ranks seeds 0
@@ -38,3 +45,32 @@ module _ {width height : ℕ} {states₀ parents₀ states queue parents ranks :
 
   pub ran : (head < tail → depthOf (of states (cellOf width (of queue head))) ≡ 16) → Ran width height states₀ parents₀ states queue parents ranks
   ran l = record { tail = tail; head = head; running = R; last = l }
+
+-- ---- the end: what is linked is joined
+self : {p k : List ℕ} → Forest p k → (r : ℕ) → Same (of p) r r
+self {p} f r =
+    by-cases (decLe (suc r) (length p))
+    (λ h. same-self f r h)
+    (λ h.
+    let e : of p r ≡ 0 = List·getD-eq-default p 0 {n = r} (omega arith) in
+    by-cases (decLe 1 (length p))
+    (λ i.
+    let z = same-self f 0 i in
+    let u : Root (of p) r (z .r) = by-cases (ℕ-discrete (of p r) r) (λ q. rw (sym q ∙ e) (z .left)) (λ n. up n (rw e (z .left))) in
+    record { r = z .r; left = u; right = u })
+    (λ i.
+    let b : of p 0 ≡ 0 = List·getD-eq-default p 0 {n = 0} (omega arith) in
+    let u : Root (of p) r 0 = by-cases (ℕ-discrete r 0) (λ q. rw q (top b)) (λ n. up (λ q. n (sym q ∙ e)) (rw e (top b))) in
+    record { r = 0; left = u; right = u }))
+
+pub ran-joins : {width height : ℕ} {states₀ parents₀ states queue parents ranks : List ℕ} → Ran width height states₀ parents₀ states queue parents ranks → {r u : ℕ} →
+    Joined (Links width height states₀) r u → Same (of parents) r u
+ran-joins {width} {height} {states = states} {parents = parents} R j =
+    let S = R .running .searching in
+    let f = R .running .grown .forest in
+    joined width (Walks width height states) (Seeds width height states) (λ x y w. w .column) (λ r x y a. a .walks) (S .turn) (R .last)
+    (λ r x y a.
+    let l : T (isLabel (of states (y * width + x))) = is-label _ (a .walks .walks) (omega (arith, S .fits (y * width + x), a .depth)) in
+    (l, a .depth, rw (a .owner) (self f r)))
+    (λ r. self f r) (λ r u. same-back) (λ r u v. same-chain)
+    (joined-by (λ r s l. linked (alike-links (R .running .alike) r s l)) j)
