@@ -1,0 +1,9 @@
+pub mod Digits
+pub mod Values
+pub mod Canonical
+pub mod Places
+pub mod Growing
+pub mod Limits
+pub mod Signs
+pub mod Writing
+pub mod RoundTrip
