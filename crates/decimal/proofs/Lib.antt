@@ -1,3 +1,4 @@
+-- Digits, the canonical text of a number, and what reading and writing it come to.
 pub mod Digits
 pub mod Values
 pub mod Canonical
