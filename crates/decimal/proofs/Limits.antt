@@ -60,12 +60,12 @@ minus-size {lowest = pos a} f h = absurd (h .le)
 minus-size {lowest = negsuc a} {n = n} f h = omega (arith, leb→le n a (h .le), f .sfits)
 
 module _ {lowest highest : ℤ} {text : List ℕ} {at : ℕ} (minus : getD text at 0 ≡ 45) where
-  pub minus-nothing : SFits w32 lowest → Reads (pos 0) (pos 2147483648) text (at + 1) nothing → Reads lowest highest text at nothing
-  minus-nothing f (refuses none) = refuses each
+  pub minus-nothing : {most : ℕ} → SFits w32 lowest → Reads (pos 0) (pos most) text (at + 1) nothing → 2147483648 ≤ most → Reads lowest highest text at nothing
+  minus-nothing {most} f (refuses none) large = refuses each
     where
       each : (z : ℤ) (past : ℕ) → Within lowest highest z → NumberAt text at z past → ⊥
       each (pos n) past w m = pos-no-minus m minus
-      each (negsuc n) past w m = none (pos (suc n)) past (natural-limits (minus-size f (w .low))) (minus-off m)
+      each (negsuc n) past w m = let i = minus-size f (w .low) in none (pos (suc n)) past (natural-limits (omega arith)) (minus-off m)
 
   pub minus-zero : {most past : ℕ} → Reads (pos 0) (pos most) text (at + 1) (number (pos 0) past) → Reads lowest highest text at nothing
   minus-zero (accepts w z) = refuses each
@@ -83,11 +83,11 @@ plain-size : {highest : ℤ} {n : ℕ} → SFits w32 highest → pos n ≤ℤ hi
 plain-size {highest = pos a} {n = n} f h = omega (arith, leb→le n a (h .le), f .sfits)
 plain-size {highest = negsuc a} f h = absurd (h .le)
 
-pub plain-nothing : {lowest highest : ℤ} {text : List ℕ} {at : ℕ} → (getD text at 0 ≡ 45 → ⊥) → SFits w32 highest → Reads (pos 0) (pos 2147483647) text at nothing → Reads lowest highest text at nothing
-plain-nothing {lowest} {highest} {text} {at} plain f (refuses none) = refuses each
+pub plain-nothing : {lowest highest : ℤ} {text : List ℕ} {at most : ℕ} → (getD text at 0 ≡ 45 → ⊥) → SFits w32 highest → Reads (pos 0) (pos most) text at nothing → 2147483647 ≤ most → Reads lowest highest text at nothing
+plain-nothing {lowest} {highest} {text} {at} {most} plain f (refuses none) large = refuses each
   where
     each : (z : ℤ) (past : ℕ) → Within lowest highest z → NumberAt text at z past → ⊥
-    each (pos n) past w m = none (pos n) past (natural-limits (plain-size f (w .high))) m
+    each (pos n) past w m = let i = plain-size f (w .high) in none (pos n) past (natural-limits (omega arith)) m
     each (negsuc n) past w m = plain (minus-starts m)
 
 pub plain-reads : {lowest highest : ℤ} {text : List ℕ} {at most n past : ℕ} {found : Found} → Reads (pos 0) (pos most) text at (number (pos n) past) → Limited lowest highest (pos n) past found → Reads lowest highest text at found

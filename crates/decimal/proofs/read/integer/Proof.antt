@@ -1,6 +1,6 @@
 -- `decimal::read::integer`: by its sign, and then by what the digits say.
 use mathlib.Core.Path.{_≡_, sym, _∙_}
-use Prim.Native.Nat.{_+_, _<_}
+use Prim.Native.Nat.{_+_, _≤_, _<_}
 use native.Mathlib.Omega.{arith}
 use borrow.Author.Needs.{needs, sfits-of}
 use borrow.Author.Tests.{eqb-true, eqb-false}
@@ -44,7 +44,7 @@ returns : tie.Need-returns
 unfolding naturalFound integerFound
 returns c =
     let b = c .before .before .before .before .before .before in
-    minus-nothing (minus (c .before .before .before)) (b .fits .lowest) (rw (c .enum-told .given .1) at (c .before .before .natural .ensures))
+    minus-nothing (minus (c .before .before .before)) (b .fits .lowest) (rw (c .enum-told .given .1) at (c .before .before .natural .ensures)) (omega arith)
 
 -- a number stands after the minus
 after : (c : tie.After-known-told) → Reads (pos 0) (pos 2147483648) (c .before .before .before .before .before .before .before .args .text .now) (c .before .before .before .before .before .before .before .args .at + 1) (number (pos (c .before .size .given .0 .0)) (c .before .size .given .0 .1 .0))
@@ -82,25 +82,26 @@ returns-4 : tie.Need-returns-4
 unfolding naturalFound integerFound
 returns-4 c =
     let b = c .before .before .before .before .before .before in
-    plain-nothing (no-minus (c .before .before .before)) (b .fits .highest) (rw (c .enum-told2 .given .1) at (c .before .before .natural2 .ensures))
+    plain-nothing (no-minus (c .before .before .before)) (b .fits .highest) (rw (c .enum-told2 .given .1) at (c .before .before .natural2 .ensures)) (omega arith)
 
--- a number stands where no minus is
-there : (c : tie.After-known-told2) → Reads (pos 0) (pos 2147483647) (c .before .before .before .before .before .before .before .args .text .now) (c .before .before .before .before .before .before .before .args .at) (number (pos (c .before .from-zero .given .0 .0)) (c .before .from-zero .given .0 .1 .0))
+-- the number that stands where no minus is has 32 bits
+small : (c : tie.After-known-told2) → c .before .from-zero .given .0 .0 ≤ 2147483647
 unfolding naturalFound
-there c = rw (c .before .from-zero .given .1) at (c .before .before .before .natural2 .ensures)
+small c = omega (arith, natural-most (rw (c .before .from-zero .given .1) at (c .before .before .before .natural2 .ensures)))
 
 cast-limited : tie.Need-cast-limited
-cast-limited c = record { sfits = omega (arith, natural-most (there c)) }
+cast-limited c = record { sfits = omega (arith, small c) }
 
 limited-requires-2 : tie.Need-limited-requires-2
 limited-requires-2 c κs = search needs
 
 returns-5 : tie.Need-returns-5
+unfolding naturalFound
 returns-5 c =
     let b = c .before .before .before .before .before .before .before .before in
     let n = c .before .before .from-zero .given .0 .0 in
-    let e : toZ w32 n ≡ pos n = toZ-pos w32 n (omega (arith, natural-most (there (c .before)))) in
-    plain-reads (there (c .before))
+    let e : toZ w32 n ≡ pos n = toZ-pos w32 n (omega (arith, small (c .before))) in
+    plain-reads (rw (c .before .before .from-zero .given .1) at (c .before .before .before .before .natural2 .ensures))
     (rw (toZ-ofZ w32 (b .args .lowest) (b .fits .lowest), toZ-ofZ w32 (b .args .highest) (b .fits .highest), e) at (c .limited2 .ensures))
 
 pub integer-spec : {M : Type 1} → statement M

@@ -1,0 +1,8 @@
+-- The code's answer as what was found.
+use Rattle.textlines.specs.Lines.{LineFound, ends, unended}
+use Rattle.textlines.specs.declared.FoundLine.{FoundLine}
+use Rattle.textlines.specs.declared.FoundLine.the-variants.{Ends, Unended}
+
+unfoldable pub lineFound : FoundLine → LineFound
+lineFound (Ends end) = ends end
+lineFound Unended = unended

@@ -1,0 +1,46 @@
+-- Document 01, "Room text and the program": the lines of a text, and a place in it that remembers how far it has come.
+use mathlib.Core.Path.{_≡_}
+use mathlib.Core.Bool.{cond}
+use mathlib.Core.List.{List, [], _∷_, _++_}
+use Prim.Native.Nat.{ℕ, _+_, _≤_, _<_}
+use lib.Dec.{eqb}
+use lib.ListN.{length, getD, take}
+
+-- "Every line ends in LF, nothing follows": LF is the byte 10
+unfoldable pub textOf : List (List ℕ) → List ℕ
+textOf [] = []
+textOf (content ∷ lines) = content ++ (10 ∷ textOf lines)
+
+-- a line's content has no LF
+pub record Plain (content : List ℕ) : Type 0 where
+  pub each : (k : ℕ) → k < length content → getD content k 0 ≡ 10 → ⊥
+
+pub data AllPlain : List (List ℕ) → Type 0 where
+  nothing : AllPlain []
+  more : {content : List ℕ} {lines : List (List ℕ)} → Plain content → AllPlain lines → AllPlain (content ∷ lines)
+
+-- the bytes from `at` up to `end` are a line's content: LF stands at its end, and not before
+pub record LineAt (text : List ℕ) (at end : ℕ) : Type 0 where
+  pub from : at ≤ end
+  pub inside : end < length text
+  pub ended : getD text end 0 ≡ 10
+  pub content : (k : ℕ) → at ≤ k → k < end → getD text k 0 ≡ 10 → ⊥
+
+-- where the line that starts at a place ends, or that no LF ends it
+pub data LineFound : Type 0 where
+  ends : (end : ℕ) → LineFound
+  unended : LineFound
+
+pub data FindsLine (text : List ℕ) (at : ℕ) : LineFound → Type 0 where
+  line : {end : ℕ} → LineAt text at end → FindsLine text at (ends end)
+  none : ((end : ℕ) → LineAt text at end → ⊥) → FindsLine text at unended
+
+-- how many line ends a text has
+unfoldable pub lineEnds : List ℕ → ℕ
+lineEnds [] = 0
+lineEnds (byte ∷ text) = cond (eqb byte 10) 1 0 + lineEnds text
+
+-- "first line that breaks it, from 1": a place in a text, and how many lines ended before it, one less than the number of its line
+pub record IsPlace (text : List ℕ) (at passed : ℕ) : Type 0 where
+  pub inside : at ≤ length text
+  pub counted : passed ≡ lineEnds (take at text)
