@@ -8,3 +8,4 @@ pub mod Limits
 pub mod Signs
 pub mod Writing
 pub mod RoundTrip
+pub mod Following

@@ -92,3 +92,11 @@ plain-nothing {lowest} {highest} {text} {at} {most} plain f (refuses none) large
 
 pub plain-reads : {lowest highest : ℤ} {text : List ℕ} {at most n past : ℕ} {found : Found} → Reads (pos 0) (pos most) text at (number (pos n) past) → Limited lowest highest (pos n) past found → Reads lowest highest text at found
 plain-reads (accepts w m) l = limited-reads m l
+
+-- ---- a number that was read has 32 bits, as its limits have
+within-fits : {lowest highest z : ℤ} → SFits w32 lowest → SFits w32 highest → Within lowest highest z → SFits w32 z
+within-fits {z = pos n} f g w = let i = plain-size g (w .high) in record { sfits = omega arith }
+within-fits {z = negsuc n} f g w = let i = minus-size f (w .low) in record { sfits = omega arith }
+
+pub read-fits : {lowest highest z : ℤ} {text : List ℕ} {at past : ℕ} → SFits w32 lowest → SFits w32 highest → Reads lowest highest text at (number z past) → SFits w32 z
+read-fits f g (accepts w m) = within-fits f g w

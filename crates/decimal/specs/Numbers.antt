@@ -5,7 +5,7 @@ use mathlib.Core.List.{List, [], _∷_, _++_}
 use Prim.Native.Nat.{ℕ, zero, suc, _+_, _/_, _%_, _≤_}
 use lib.Dec.{leb, ltb}
 use lib.IntN.{ℤ, pos, negsuc}
-use lib.ListN.{length, getD}
+use lib.ListN.{length, getD, drop}
 use lib.Seq.{slice, sets}
 use lib.Signed.{_≤ℤ_}
 
@@ -46,6 +46,15 @@ pub data Found : Type 0 where
 pub data Reads (lowest highest : ℤ) (text : List ℕ) (at : ℕ) : Found → Type 0 where
   accepts : {z : ℤ} {past : ℕ} → Within lowest highest z → NumberAt text at z past → Reads lowest highest text at (number z past)
   refuses : ((z : ℤ) (past : ℕ) → Within lowest highest z → NumberAt text at z past → ⊥) → Reads lowest highest text at nothing
+
+-- "four numbers with single spaces", "Every line ends in LF": from `at` on the text goes on with a number's text, the byte that must follow it, and what stands from `past` on
+pub record FollowedAt (text : List ℕ) (at : ℕ) (number : ℤ) (byte past : ℕ) : Type 0 where
+  pub stands : drop at text ≡ decimalOf number ++ (byte ∷ drop past text)
+  pub inside : past ≤ length text
+
+pub data ReadsFollowed (byte : ℕ) (lowest highest : ℤ) (text : List ℕ) (at : ℕ) : Found → Type 0 where
+  accepts-followed : {z : ℤ} {past : ℕ} → Within lowest highest z → FollowedAt text at z byte past → ReadsFollowed byte lowest highest text at (number z past)
+  refuses-followed : ((z : ℤ) (past : ℕ) → Within lowest highest z → FollowedAt text at z byte past → ⊥) → ReadsFollowed byte lowest highest text at nothing
 
 -- a number that was read, judged by its limits
 pub data Limited (lowest highest z : ℤ) (past : ℕ) : Found → Type 0 where

@@ -1,11 +1,11 @@
 // Reading a number at a place of a text, up to the first byte that is no part of it.
 ghost use mathlib.Core.Path.{_≡_};
-ghost use mathlib.Core.Bool.{true};
+ghost use mathlib.Core.Bool.{true, false};
 ghost use Prim.Native.Nat.{_+_, _≤_};
 ghost use lib.Dec.{eqb};
 ghost use lib.IntN.{pos, negℤ};
 ghost use lib.ListN.{getD};
-ghost use Rattle.decimal.specs.Numbers.{isDigit, Limited, Reads};
+ghost use Rattle.decimal.specs.Numbers.{isDigit, Limited, Reads, ReadsFollowed};
 ghost use Rattle.decimal.specs.Answers.{naturalFound, integerFound};
 
 // A number from 0 on and the place after it, or no such number.
@@ -123,4 +123,22 @@ pub fn integer(text: &[u8], at: usize, lowest: i32, highest: i32) -> FoundIntege
         return FoundInteger::Nothing;
     };
     limited(above as i32, past, lowest, highest)
+}
+
+// Reads a number and the one byte that must follow it, a space or LF: the place handed back is past that byte.
+pub fn followed(text: &[u8], at: usize, byte: u8, lowest: i32, highest: i32) -> FoundInteger
+    requires { ⌜ isDigit byte ≡ false ⌝ }
+    ensures { λ r. ⌜ ReadsFollowed byte lowest highest (now (text .entry)) at (integerFound r) ⌝ }
+{
+    let found = integer(text, at, lowest, highest);
+    let FoundInteger::Number(number, past) = found else {
+        return FoundInteger::Nothing;
+    };
+    if text.len() <= past {
+        return FoundInteger::Nothing;
+    }
+    if text[past] != byte {
+        return FoundInteger::Nothing;
+    }
+    FoundInteger::Number(number, past + 1)
 }

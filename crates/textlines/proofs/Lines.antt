@@ -90,12 +90,12 @@ pub start-place : (text : List ℕ) → IsPlace text 0 0
 unfolding lineEnds
 start-place text = record { inside = omega arith; counted = refl }
 
-pub next-place : {text : List ℕ} {at passed end : ℕ} → IsPlace text at passed → LineAt text at end → IsPlace text (end + 1) (passed + 1)
-next-place {text} {at} {passed} {end} p l =
+pub next-place : {text : List ℕ} {at passed end next count : ℕ} → IsPlace text at passed → LineAt text at end → next ≡ end + 1 → count ≡ passed + 1 → IsPlace text next count
+next-place {text} {at} {passed} {end} {next} {count} p l past more =
     let from = l .from in
     let within = l .inside in
     let e : at + (end - at) ≡ end = omega arith in
     let f : lineEnds (take (at + (end - at)) text) ≡ lineEnds (take at text) = passed-content text at (end - at) (omega arith) (λ k i j. l .content k i (omega arith)) in
     let g : lineEnds (take end text) ≡ lineEnds (take at text) = rw e at f in
     let one : _≡_ {A = ℕ} (cond (eqb (getD text end 0) 10) 1 0) 1 = rw (eq-eqb (getD text end 0) 10 (l .ended)) in
-    record { inside = omega arith; counted = omega (arith, p .counted, g, one, passed-byte text end within) }
+    record { inside = omega arith; counted = rw past (omega (arith, p .counted, g, one, passed-byte text end within)) }

@@ -1,5 +1,5 @@
 -- `textlines::next_line`: one line more ended before it.
-use mathlib.Core.Path.{refl}
+use native.Mathlib.Omega.{arith}
 use borrow.Author.Needs.{needs}
 use Rattle.textlines.proofs.Lines.{most-ends, next-place}
 use Rattle.textlines.proofs.next_line.Statement.{statement}
@@ -17,7 +17,7 @@ add-passed c =
     search needs
 
 returns : tie.Need-returns
-returns c = (next-place (c .before .pre .0) (c .before .pre .1), refl, refl)
+returns c = (next-place (c .before .pre .0) (c .before .pre .1) (omega arith) (omega arith), omega arith, omega arith)
 
 pub next-line-spec : {M : Type 1} → statement M
 next-line-spec = tie.close (tie.spec add-past add-passed returns)
