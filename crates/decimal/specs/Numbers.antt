@@ -18,6 +18,7 @@ unfoldable pub digitsIn : ℕ → ℕ → List ℕ
 digitsIn zero n = (48 + n) ∷ []
 digitsIn (suc steps) n = cond (ltb n 10) ((48 + n) ∷ []) (digitsIn steps (n / 10) ++ ((48 + n % 10) ∷ []))
 
+-- n steps are enough: n / 10 is less than n
 unfoldable pub digitsOf : ℕ → List ℕ
 digitsOf n = digitsIn n n
 
@@ -52,6 +53,7 @@ pub record FollowedAt (text : List ℕ) (at : ℕ) (number : ℤ) (byte past : �
   pub stands : drop at text ≡ decimalOf number ++ (byte ∷ drop past text)
   pub inside : past ≤ length text
 
+-- what reading a number and the byte that must follow it finds, with the place after that byte
 pub data ReadsFollowed (byte : ℕ) (lowest highest : ℤ) (text : List ℕ) (at : ℕ) : Found → Type 0 where
   accepts-followed : {z : ℤ} {past : ℕ} → Within lowest highest z → FollowedAt text at z byte past → ReadsFollowed byte lowest highest text at (number z past)
   refuses-followed : ((z : ℤ) (past : ℕ) → Within lowest highest z → FollowedAt text at z byte past → ⊥) → ReadsFollowed byte lowest highest text at nothing
