@@ -21,12 +21,12 @@ module _ {before : List ℕ} {at n : ℕ} where
   unfolding decimalOf
   writes-digit h = record { ends = omega (arith, length-small n h); content = ap (sets before at) (sym (digits-small n h)) }
 
-  pub writes-more : {middle : List ℕ} {last : ℕ} → 10 ≤ n → Writes (pos (n / 10)) at before middle last → Writes (pos n) at before (set middle last (48 + n % 10)) (last + 1)
+  pub writes-more : {middle : List ℕ} {last byte : ℕ} → 10 ≤ n → Writes (pos (n / 10)) at before middle last → byte ≡ 48 + n % 10 → Writes (pos n) at before (set middle last byte) (last + 1)
   unfolding decimalOf
-  writes-more {middle} {last} h w =
+  writes-more {middle} {last} h w e =
       record {
         ends = omega (arith, length-large n h, w .ends);
-        content = rw (w .content, w .ends) (sym (ap (sets before at) (digits-large n h) ∙ sets-more before (digitsOf (n / 10)) at (48 + n % 10)));
+        content = rw (e, w .content, w .ends) (sym (ap (sets before at) (digits-large n h) ∙ sets-more before (digitsOf (n / 10)) at (48 + n % 10)));
       }
 
 -- a minus, and the digits after it

@@ -36,7 +36,7 @@ shared-slice-read-if2 c = search needs
 
 returns-3 : tie.Need-returns-3
 unfolding integerFound
-returns-3 c = followed-other (c .before .before .before .before .before .before .before .before .pre) (rw (c .before .before .before .before .found .given .1) at (read (c .before .before .before .before .before .before))) (λ h e. c .if2 .taken e)
+returns-3 c = followed-other (c .before .before .before .before .before .before .before .before .pre) (rw (c .before .before .before .before .found .given .1) at (read (c .before .before .before .before .before .before))) (λ h e. omega (arith, c .if2 .taken))
 
 add-t9 : tie.Need-add-t9
 add-t9 c = search needs
@@ -46,7 +46,7 @@ unfolding integerFound
 returns-4 c =
     let b = c .before .before .before .before .before .before .before .before in
     let r = rw (c .before .before .before .before .found .given .1) at (read (c .before .before .before .before .before .before)) in
-    rw (toZ-ofZ w32 (c .before .before .before .before .found .given .0 .0) (read-fits (b .fits .lowest) (b .fits .highest) r)) (followed-reads (b .pre) r (c .before .before .if1 .left) (c .if2 .left))
+    rw (toZ-ofZ w32 (c .before .before .before .before .found .given .0 .0) (read-fits (b .fits .lowest) (b .fits .highest) r)) (followed-reads (b .pre) r (c .before .before .if1 .left) (omega (arith, c .if2 .left)))
 
 pub followed-spec : {M : Type 1} → statement M
 followed-spec =

@@ -90,7 +90,7 @@ natural-same-length-2 t c = search needs
 natural-returns-2 :
     (t : ℕ) →
     natural-lts.Need-returns-2 (natural-below t, natural.Post) (natural-at t) natural.Post
-natural-returns-2 t c = writes-more (c .before .before .before .before .if1 .left) (c .before .before .natural .ensures)
+natural-returns-2 t c = writes-more (c .before .before .before .before .if1 .left) (c .before .before .natural .ensures) (omega arith)
 
 pub +natural-spec : {M : Type 1} → statement M
 +natural-spec =
