@@ -16,10 +16,10 @@ use Rattle.walkgraph.proofs.DisjointSet.{Same}
 use Rattle.walkgraph.proofs.SearchTurns.{Turn, Push, push-room, seed-turn, join-turn, turn-over}
 use Rattle.walkgraph.proofs.SearchEnd.{Adj, Near, adj-over, near-over}
 use Rattle.disjoint.specs.Forest.{of, Forest}
-use Rattle.join.specs.Labels.{ownerOf, depthOf, Label}
-use Rattle.join.specs.Growth.{Met}
-use Rattle.join.specs.Plants.{MayPlant, Planted, shut, labelled, met}
-use Rattle.join.specs.Search.{cellOf, isLabel, stateOf, Walks, Seeds, Searching, Planting}
+use Rattle.labels.specs.Labels.{ownerOf, depthOf, Label, cellOf}
+use Rattle.labels.specs.Growth.{Met}
+use Rattle.visits.specs.Plants.{MayPlant, Planted, shut, labelled, met}
+use Rattle.join.specs.Search.{isLabel, stateOf, Walks, Seeds, Searching, Planting}
 use Rattle.join.proofs.Searching.{is-label, no-label, walks-on, walks-off, seeds-on}
 
 module _ {width height : ℕ} {states queue parents ranks : List ℕ} {tail r index : ℕ} (P : Planting width height states queue parents ranks tail) (in-map : index < length states)

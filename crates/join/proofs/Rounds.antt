@@ -7,6 +7,8 @@ use Prim.Native.Nat.{ℕ, suc, _+_, _*_, _-_, _/_, _%_, _≤_, _<_}
 use native.Mathlib.Nat.{div-add-mod', mul-le-mul-right}
 use native.Mathlib.Decide.{decLe, ℕ-discrete}
 use native.Mathlib.Omega.{arith}
+use mir.Syntax.{w32, w64}
+use mir.Val.{Fits}
 use lib.Dec.{T, leb, ltb, leb→le, ltb→lt, lt→ltb}
 use lib.Arith.{digits-div, digits-mod}
 use lib.ListN.{length}
@@ -16,14 +18,15 @@ use Rattle.walkgraph.proofs.DisjointSet.{Same}
 use Rattle.walkgraph.proofs.SearchTurns.{Looks, next-turn, queue-in}
 use Rattle.walkgraph.proofs.SearchEnd.{Adj}
 use Rattle.disjoint.specs.Forest.{of, Forest}
-use Rattle.join.specs.Labels.{ownerOf, depthOf, Label}
-use Rattle.join.specs.Growth.{Grown}
-use Rattle.join.specs.Picks.{within, isInside, highest}
-use Rattle.join.specs.Visits.{opens, MayVisit, Visited}
-use Rattle.join.specs.Search.{cellOf, isLabel, stateOf, Walks, Links, Searching, Alike, Moved, Table, OnMap, Listed, Turning, Expanded}
-use Rattle.join.proofs.Growing.{grown-none, grown-more, grown-chain, same-self}
+use Rattle.labels.specs.Labels.{ownerOf, depthOf, Label, cellOf}
+use Rattle.labels.specs.Growth.{Grown}
+use Rattle.picks.specs.Picks.{within, isInside, highest}
+use Rattle.visits.specs.Visits.{opens, MayVisit, Visited}
+use Rattle.picks.specs.Listed.{Table, OnMap, Listed}
+use Rattle.join.specs.Search.{isLabel, stateOf, Walks, Links, Searching, Alike, Moved, Turning, Expanded}
+use Rattle.labels.proofs.Growing.{grown-none, grown-more, grown-chain, same-self}
 use Rattle.join.proofs.Moves.{row-moved, next-is, Inside, Opened, step-opened}
-use Rattle.join.proofs.Listing.{within-is}
+use Rattle.picks.proofs.Listing.{within-is}
 use Rattle.join.proofs.Searching.{label-low, label-high, is-label, alike-self, alike-chain, alike-links, here-label, here-in, may-visit, visit-moved}
 
 -- the cells of a move from (x, y) by a - 1 columns and b - 1 rows
@@ -248,22 +251,24 @@ module _ {width height : ℕ} {states₀ queue₀ parents₀ ranks₀ over down 
           long = L .long;
         }
 
--- ---- the numbers of a move: all are small, and no difference stops at 0
+-- ---- the numbers of a move: each fits its type, and no difference stops at 0
 pub record Sizes (width p k a b step : ℕ) : Type 0 where
   pub low : k < 8
-  pub small-a : a ≤ 2
-  pub small-b : b ≤ 2
-  pub low-x : 1 ≤ p % 1024 + a
-  pub low-y : 1 ≤ p / 1024 + b
-  pub rows : p / 1024 < 1024
-  pub wide : width ≤ 1024
-  pub along : step ≤ 2050
-  pub cell : p / 1024 * width + p % 1024 < 1048576
-  pub enough : width + 1 ≤ (p / 1024 * width + p % 1024) + step
   pub next : (p / 1024 * width + p % 1024) + step - width - 1 ≡ nextOf width (p % 1024) (p / 1024) a b
   pub side : nextOf width (p % 1024) (p / 1024) a b + 1 - a ≡ (p / 1024 + b - 1) * width + p % 1024
-  pub before : a ≤ nextOf width (p % 1024) (p / 1024) a b + 1
   pub second : (p / 1024 * width + p % 1024) + a - 1 ≡ p / 1024 * width + (p % 1024 + a - 1)
+  pub step-fits : Fits w64 ((p / 1024 * width + p % 1024) + step)
+  pub step-low : width ≤ (p / 1024 * width + p % 1024) + step
+  pub step-some : 1 ≤ (p / 1024 * width + p % 1024) + step - width
+  pub rows-fit : Fits w64 (b * 1024)
+  pub move-fits : Fits w64 (b * 1024 + a)
+  pub move-short : Fits w32 (b * 1024 + a)
+  pub to-fits : Fits w32 (p + (b * 1024 + a))
+  pub to-low : 1025 ≤ p + (b * 1024 + a)
+  pub next-fits : Fits w64 ((p / 1024 * width + p % 1024) + step - width - 1 + 1)
+  pub side-low : a ≤ (p / 1024 * width + p % 1024) + step - width - 1 + 1
+  pub over-fits : Fits w64 ((p / 1024 * width + p % 1024) + a)
+  pub over-low : 1 ≤ (p / 1024 * width + p % 1024) + a
 
 module _ {width height : ℕ} {states queue parents ranks over down steps list₀ : List ℕ} {tail head : ℕ}
     (G : Turning width height states queue parents ranks over down steps list₀ tail head) where
@@ -291,22 +296,45 @@ module _ {width height : ℕ} {states queue parents ranks over down steps list�
       let k = of list j in
       let m = inside-is (G .table) k (o .0) (o .1) in
       let p = of queue head in
+      let a = of over k in
+      let b = of down k in
+      let cell = p / 1024 * width + p % 1024 in
       let e = G .table .offset k (o .0) in
       let w = G .searching .wide .1 in
-      let r = row-moved width (p / 1024) (of down k) (m .low-y) in
+      let r = row-moved width (p / 1024) b (m .low-y) in
+      let row : p / 1024 < 1024 = omega (arith, head-cell G .row, head-cell G .tall) in
+      let few : cell < 1048576 = omega (arith, few-cells G, here-in (G .searching) (G .more)) in
+      let along : of steps k ≤ 2050 = omega (arith, e, m .small-a, w, mul-le-mul-right {m = b} {n = 2} width (m .small-b)) in
+      let enough : width + 1 ≤ cell + of steps k = omega (arith, e, r, m .low-x) in
+      let next : cell + of steps k - width - 1 ≡ nextOf width (p % 1024) (p / 1024) a b = rw e (next-is width (p % 1024) (p / 1024) a b (m .low-x) (m .low-y)) in
       record {
         low = o .0;
-        small-a = m .small-a;
-        small-b = m .small-b;
-        low-x = m .low-x;
-        low-y = m .low-y;
-        rows = omega (arith, head-cell G .row, head-cell G .tall);
-        wide = w;
-        along = omega (arith, e, m .small-a, w, mul-le-mul-right {m = of down k} {n = 2} width (m .small-b));
-        cell = omega (arith, few-cells G, here-in (G .searching) (G .more));
-        enough = omega (arith, e, r, m .low-x);
-        next = rw e (next-is width (p % 1024) (p / 1024) (of over k) (of down k) (m .low-x) (m .low-y));
+        next = next;
         side = omega (arith, m .low-x);
-        before = omega (arith, m .low-x);
         second = omega (arith, m .low-x);
+        step-fits = omega (arith, few, along);
+        step-low = omega (arith, enough);
+        step-some = omega (arith, enough);
+        rows-fit = omega (arith, m .small-b);
+        move-fits = omega (arith, m .small-a, m .small-b);
+        move-short = omega (arith, m .small-a, m .small-b);
+        to-fits = omega (arith, row, m .small-a, m .small-b);
+        to-low = omega (arith, m .low-x, m .low-y);
+        next-fits = omega (arith, few, along);
+        side-low = rw next (omega (arith, m .low-x));
+        over-fits = omega (arith, few, m .small-a);
+        over-low = omega (arith, m .low-x);
       }
+
+-- a move by the numbers that the code makes is the move
+module _ {width p k a b step : ℕ} (z : Sizes width p k a b step) {states queue parents ranks : List ℕ} {tail state : ℕ} where
+  pub may-at : MayVisit states queue parents ranks tail state (nextOf width (p % 1024) (p / 1024) a b) ((p / 1024 + b - 1) * width + p % 1024) (p / 1024 * width + (p % 1024 + a - 1)) →
+      MayVisit states queue parents ranks tail state ((p / 1024 * width + p % 1024) + step - width - 1) ((p / 1024 * width + p % 1024) + step - width - 1 + 1 - a) ((p / 1024 * width + p % 1024) + a - 1)
+  may-at m = rw (z .next, z .side, z .second) m
+
+  pub visited-at : {point : ℕ} {states′ queue′ parents′ ranks′ : List ℕ} {tail′ : ℕ} →
+      Visited states queue parents ranks tail state ((p / 1024 * width + p % 1024) + step - width - 1) point ((p / 1024 * width + p % 1024) + step - width - 1 + 1 - a) ((p / 1024 * width + p % 1024) + a - 1)
+      states′ queue′ parents′ ranks′ tail′ →
+      Visited states queue parents ranks tail state (nextOf width (p % 1024) (p / 1024) a b) point ((p / 1024 + b - 1) * width + p % 1024) (p / 1024 * width + (p % 1024 + a - 1))
+      states′ queue′ parents′ ranks′ tail′
+  visited-at v = rw (z .next, z .side, z .second) at v

@@ -14,9 +14,10 @@ use Rattle.walkgraph.proofs.DisjointSet.{Root, top, up, Same, same-back, same-c
 use Rattle.walkgraph.proofs.SearchTurns.{queue-in}
 use Rattle.walkgraph.proofs.SearchEnd.{joined}
 use Rattle.disjoint.specs.Forest.{of, Forest}
-use Rattle.join.specs.Labels.{depthOf}
-use Rattle.join.specs.Search.{cellOf, isLabel, Walks, Seeds, Links, Searching, Table, Turning, Expanded, Seeded, Running, Ran}
-use Rattle.join.proofs.Growing.{grown-none, grown-more, grown-chain, same-self}
+use Rattle.labels.specs.Labels.{depthOf, cellOf}
+use Rattle.picks.specs.Listed.{Table}
+use Rattle.join.specs.Search.{isLabel, Walks, Seeds, Links, Searching, Turning, Expanded, Seeded, Running, Ran}
+use Rattle.labels.proofs.Growing.{grown-none, grown-more, grown-chain, same-self}
 use Rattle.join.proofs.Searching.{alike-self, alike-chain, alike-links, here-label, is-label}
 
 pub running-none : {width height : ℕ} {states queue parents ranks : List ℕ} {seeds : ℕ} → Seeded width height states queue parents ranks seeds →

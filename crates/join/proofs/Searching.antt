@@ -16,11 +16,11 @@ use Rattle.walkgraph.proofs.DisjointSet.{Same}
 use Rattle.walkgraph.proofs.SearchTurns.{State, Turn, Push, push-room, step-turn, join-turn, turn-over}
 use Rattle.walkgraph.proofs.SearchEnd.{Adj, Near, near-step, near-linked, adj-over, near-over, linked-over}
 use Rattle.disjoint.specs.Forest.{of, Forest}
-use Rattle.join.specs.Labels.{ownerOf, depthOf, Label}
-use Rattle.join.specs.Growth.{Grown, Close, Met}
-use Rattle.join.specs.Visits.{opens, MayVisit, Visited, shut, labelled, met}
-use Rattle.join.specs.Search.{cellOf, isLabel, stateOf, Walks, Seeds, Links, Searching, Alike, Moved}
-use Rattle.join.proofs.Growing.{grown-none, grown-more, same-self}
+use Rattle.labels.specs.Labels.{ownerOf, depthOf, Label, cellOf}
+use Rattle.labels.specs.Growth.{Grown, Close, Met}
+use Rattle.visits.specs.Visits.{opens, MayVisit, Visited, shut, labelled, met}
+use Rattle.join.specs.Search.{isLabel, stateOf, Walks, Seeds, Links, Searching, Alike, Moved}
+use Rattle.labels.proofs.Growing.{grown-none, grown-more, same-self}
 use Rattle.join.proofs.Moves.{point-next, Inside, open-step}
 
 -- ---- labels

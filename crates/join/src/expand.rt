@@ -1,6 +1,6 @@
 // One cell of the queue: all its moves.
-use crate::list;
-use crate::visit;
+use picks::list;
+use visits::visit;
 ghost use Rattle.join.specs.Search.{Turning, Expanded};
 
 // Makes the moves of the queue's cell at head; answers how many entries the queue has then.

@@ -1,8 +1,3 @@
 // Fields of resources: cells are labelled to depth 16 from all access cells at once, and labels that meet across a step are joined.
 pub mod expand;
-pub mod list;
-pub mod meet;
-pub mod pick;
-pub mod plant;
 pub mod search;
-pub mod visit;

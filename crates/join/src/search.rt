@@ -1,20 +1,14 @@
 // The search from all access cells at once, by one queue, to depth 16.
 use crate::expand;
+use labels::deepest;
 ghost use mathlib.Core.Path.{_≡_};
 ghost use Prim.Native.Nat.{_<_};
 ghost use lib.Dec.{eqb};
 ghost use lib.ListN.{length};
 ghost use Rattle.disjoint.specs.Forest.{of};
-ghost use Rattle.join.specs.Labels.{depthOf};
-ghost use Rattle.join.specs.Search.{cellOf, Table, Seeded, Ran};
-
-// The cell at a point has depth 16.
-pub fn deepest(states: &[u16], width: usize, point: u32) -> bool
-    requires { ⌜ cellOf width point < length (now states) ⌝ }
-    ensures { λ r. ⌜ r ≡ eqb (depthOf (of (now (states .entry)) (cellOf width point))) 16 ⌝ }
-{
-    states[(point / 1024) as usize * width + (point % 1024) as usize] % 32 == 16
-}
+ghost use Rattle.labels.specs.Labels.{depthOf, cellOf};
+ghost use Rattle.picks.specs.Listed.{Table};
+ghost use Rattle.join.specs.Search.{Seeded, Ran};
 
 // Takes cells from the queue until none is left or the next has depth 16: each step from such a cell to a shallower one has been looked at from there.
 pub fn run(
@@ -36,7 +30,7 @@ pub fn run(
     let mut tail = seeds;
     let mut head: usize = 0;
     while head < tail {
-        if deepest(states, width, queue[head]) {
+        if deepest::deepest(states, width, queue[head]) {
             return;
         }
         tail = expand::expand(

@@ -5,7 +5,7 @@ use native.Mathlib.Omega.{arith}
 use borrow.Author.Needs.{needs}
 use lib.ListN.{length}
 use Rattle.disjoint.specs.Forest.{of}
-use Rattle.join.proofs.Rounds.{Round, round-none, round-may, round-on, round-done, head-cell, head-queued, few-cells, sizes}
+use Rattle.join.proofs.Rounds.{Round, round-none, round-may, round-on, round-done, head-cell, head-queued, few-cells, sizes, may-at, visited-at}
 use Rattle.join.proofs.Searching.{here-in}
 use Rattle.join.proofs.expand.expand.Statement.{statement}
 use Rattle.join.proofs.expand.expand.Tie as tie
@@ -61,13 +61,13 @@ element-copy-out-next : tie.Need-element-copy-out-next Inv-loop μ-loop
 element-copy-out-next c = (sizes (c .before .before .before .before .before .before .before .before .before .before .before .before .pre) (c .before .before .before .listed .ensures) (c .before .before .loop .j) (c .before .loop-test .taken)) .low
 
 add-next : tie.Need-add-next Inv-loop μ-loop
-add-next c = let z = (sizes (c .before .before .before .before .before .before .before .before .before .before .before .before .before .pre) (c .before .before .before .before .listed .ensures) (c .before .before .before .loop .j) (c .before .before .loop-test .taken)) in omega (arith, z .low, z .small-a, z .small-b, z .low-x, z .low-y, z .rows, z .wide, z .along, z .cell, z .enough, z .next, z .before)
+add-next c = (sizes (c .before .before .before .before .before .before .before .before .before .before .before .before .before .pre) (c .before .before .before .before .listed .ensures) (c .before .before .before .loop .j) (c .before .before .loop-test .taken)) .step-fits
 
 sub-next : tie.Need-sub-next Inv-loop μ-loop
-sub-next c = let z = (sizes (c .before .before .before .before .before .before .before .before .before .before .before .before .before .pre) (c .before .before .before .before .listed .ensures) (c .before .before .before .loop .j) (c .before .before .loop-test .taken)) in omega (arith, z .low, z .small-a, z .small-b, z .low-x, z .low-y, z .rows, z .wide, z .along, z .cell, z .enough, z .next, z .before)
+sub-next c = (sizes (c .before .before .before .before .before .before .before .before .before .before .before .before .before .pre) (c .before .before .before .before .listed .ensures) (c .before .before .before .loop .j) (c .before .before .loop-test .taken)) .step-low
 
 sub-next-2 : tie.Need-sub-next-2 Inv-loop μ-loop
-sub-next-2 c = let z = (sizes (c .before .before .before .before .before .before .before .before .before .before .before .before .before .pre) (c .before .before .before .before .listed .ensures) (c .before .before .before .loop .j) (c .before .before .loop-test .taken)) in omega (arith, z .low, z .small-a, z .small-b, z .low-x, z .low-y, z .rows, z .wide, z .along, z .cell, z .enough, z .next, z .before)
+sub-next-2 c = (sizes (c .before .before .before .before .before .before .before .before .before .before .before .before .before .pre) (c .before .before .before .before .listed .ensures) (c .before .before .before .loop .j) (c .before .before .loop-test .taken)) .step-some
 
 mul-to : tie.Need-mul-to Inv-loop μ-loop
 mul-to c = omega (arith, (sizes (c .before .before .before .before .before .before .before .before .before .before .before .before .before .pre) (c .before .before .before .before .listed .ensures) (c .before .before .before .loop .j) (c .before .before .loop-test .taken)) .low)
@@ -76,7 +76,7 @@ element-copy-out-to : tie.Need-element-copy-out-to Inv-loop μ-loop
 element-copy-out-to c = (sizes (c .before .before .before .before .before .before .before .before .before .before .before .before .before .pre) (c .before .before .before .before .listed .ensures) (c .before .before .before .loop .j) (c .before .before .loop-test .taken)) .low
 
 mul-to-2 : tie.Need-mul-to-2 Inv-loop μ-loop
-mul-to-2 c = omega (arith, (sizes (c .before .before .before .before .before .before .before .before .before .before .before .before .before .before .pre) (c .before .before .before .before .before .listed .ensures) (c .before .before .before .before .loop .j) (c .before .before .before .loop-test .taken)) .small-b)
+mul-to-2 c = (sizes (c .before .before .before .before .before .before .before .before .before .before .before .before .before .before .pre) (c .before .before .before .before .before .listed .ensures) (c .before .before .before .before .loop .j) (c .before .before .before .loop-test .taken)) .rows-fit
 
 mul-to-3 : tie.Need-mul-to-3 Inv-loop μ-loop
 mul-to-3 c = omega (arith, (sizes (c .before .before .before .before .before .before .before .before .before .before .before .before .before .before .pre) (c .before .before .before .before .before .listed .ensures) (c .before .before .before .before .loop .j) (c .before .before .before .loop-test .taken)) .low)
@@ -85,19 +85,19 @@ element-copy-out-to-2 : tie.Need-element-copy-out-to-2 Inv-loop μ-loop
 element-copy-out-to-2 c = (sizes (c .before .before .before .before .before .before .before .before .before .before .before .before .before .before .pre) (c .before .before .before .before .before .listed .ensures) (c .before .before .before .before .loop .j) (c .before .before .before .loop-test .taken)) .low
 
 add-to : tie.Need-add-to Inv-loop μ-loop
-add-to c = let z = (sizes (c .before .before .before .before .before .before .before .before .before .before .before .before .before .before .before .pre) (c .before .before .before .before .before .before .listed .ensures) (c .before .before .before .before .before .loop .j) (c .before .before .before .before .loop-test .taken)) in omega (arith, z .low, z .small-a, z .small-b, z .low-x, z .low-y, z .rows, z .wide, z .along, z .cell, z .enough, z .next, z .before)
+add-to c = (sizes (c .before .before .before .before .before .before .before .before .before .before .before .before .before .before .before .pre) (c .before .before .before .before .before .before .listed .ensures) (c .before .before .before .before .before .loop .j) (c .before .before .before .before .loop-test .taken)) .move-fits
 
 cast-to : tie.Need-cast-to Inv-loop μ-loop
-cast-to c = let z = (sizes (c .before .before .before .before .before .before .before .before .before .before .before .before .before .before .before .pre) (c .before .before .before .before .before .before .listed .ensures) (c .before .before .before .before .before .loop .j) (c .before .before .before .before .loop-test .taken)) in omega (arith, z .low, z .small-a, z .small-b, z .low-x, z .low-y, z .rows, z .wide, z .along, z .cell, z .enough, z .next, z .before)
+cast-to c = (sizes (c .before .before .before .before .before .before .before .before .before .before .before .before .before .before .before .pre) (c .before .before .before .before .before .before .listed .ensures) (c .before .before .before .before .before .loop .j) (c .before .before .before .before .loop-test .taken)) .move-short
 
 add-to-2 : tie.Need-add-to-2 Inv-loop μ-loop
-add-to-2 c = let z = (sizes (c .before .before .before .before .before .before .before .before .before .before .before .before .before .before .before .pre) (c .before .before .before .before .before .before .listed .ensures) (c .before .before .before .before .before .loop .j) (c .before .before .before .before .loop-test .taken)) in omega (arith, z .low, z .small-a, z .small-b, z .low-x, z .low-y, z .rows, z .wide, z .along, z .cell, z .enough, z .next, z .before)
+add-to-2 c = (sizes (c .before .before .before .before .before .before .before .before .before .before .before .before .before .before .before .pre) (c .before .before .before .before .before .before .listed .ensures) (c .before .before .before .before .before .loop .j) (c .before .before .before .before .loop-test .taken)) .to-fits
 
 sub-to : tie.Need-sub-to Inv-loop μ-loop
-sub-to c = let z = (sizes (c .before .before .before .before .before .before .before .before .before .before .before .before .before .before .before .pre) (c .before .before .before .before .before .before .listed .ensures) (c .before .before .before .before .before .loop .j) (c .before .before .before .before .loop-test .taken)) in omega (arith, z .low, z .small-a, z .small-b, z .low-x, z .low-y, z .rows, z .wide, z .along, z .cell, z .enough, z .next, z .before)
+sub-to c = (sizes (c .before .before .before .before .before .before .before .before .before .before .before .before .before .before .before .pre) (c .before .before .before .before .before .before .listed .ensures) (c .before .before .before .before .before .loop .j) (c .before .before .before .before .loop-test .taken)) .to-low
 
 add-side : tie.Need-add-side Inv-loop μ-loop
-add-side c = let z = (sizes (c .before .before .before .before .before .before .before .before .before .before .before .before .before .before .before .pre) (c .before .before .before .before .before .before .listed .ensures) (c .before .before .before .before .before .loop .j) (c .before .before .before .before .loop-test .taken)) in omega (arith, z .low, z .small-a, z .small-b, z .low-x, z .low-y, z .rows, z .wide, z .along, z .cell, z .enough, z .next, z .before)
+add-side c = (sizes (c .before .before .before .before .before .before .before .before .before .before .before .before .before .before .before .pre) (c .before .before .before .before .before .before .listed .ensures) (c .before .before .before .before .before .loop .j) (c .before .before .before .before .loop-test .taken)) .next-fits
 
 mul-side : tie.Need-mul-side Inv-loop μ-loop
 mul-side c = omega (arith, (sizes (c .before .before .before .before .before .before .before .before .before .before .before .before .before .before .before .pre) (c .before .before .before .before .before .before .listed .ensures) (c .before .before .before .before .before .loop .j) (c .before .before .before .before .loop-test .taken)) .low)
@@ -106,7 +106,7 @@ element-copy-out-side : tie.Need-element-copy-out-side Inv-loop μ-loop
 element-copy-out-side c = (sizes (c .before .before .before .before .before .before .before .before .before .before .before .before .before .before .before .pre) (c .before .before .before .before .before .before .listed .ensures) (c .before .before .before .before .before .loop .j) (c .before .before .before .before .loop-test .taken)) .low
 
 sub-side : tie.Need-sub-side Inv-loop μ-loop
-sub-side c = let z = (sizes (c .before .before .before .before .before .before .before .before .before .before .before .before .before .before .before .before .pre) (c .before .before .before .before .before .before .before .listed .ensures) (c .before .before .before .before .before .before .loop .j) (c .before .before .before .before .before .loop-test .taken)) in omega (arith, z .low, z .small-a, z .small-b, z .low-x, z .low-y, z .rows, z .wide, z .along, z .cell, z .enough, z .next, z .before)
+sub-side c = (sizes (c .before .before .before .before .before .before .before .before .before .before .before .before .before .before .before .before .pre) (c .before .before .before .before .before .before .before .listed .ensures) (c .before .before .before .before .before .before .loop .j) (c .before .before .before .before .before .loop-test .taken)) .side-low
 
 mul-visit : tie.Need-mul-visit Inv-loop μ-loop
 mul-visit c = omega (arith, (sizes (c .before .before .before .before .before .before .before .before .before .before .before .before .before .before .before .before .before .before .before .before .pre) (c .before .before .before .before .before .before .before .before .before .before .before .listed .ensures) (c .before .before .before .before .before .before .before .before .before .before .loop .j) (c .before .before .before .before .before .before .before .before .before .loop-test .taken)) .low)
@@ -115,16 +115,16 @@ element-copy-out-visit : tie.Need-element-copy-out-visit Inv-loop μ-loop
 element-copy-out-visit c = (sizes (c .before .before .before .before .before .before .before .before .before .before .before .before .before .before .before .before .before .before .before .before .pre) (c .before .before .before .before .before .before .before .before .before .before .before .listed .ensures) (c .before .before .before .before .before .before .before .before .before .before .loop .j) (c .before .before .before .before .before .before .before .before .before .loop-test .taken)) .low
 
 add-visit : tie.Need-add-visit Inv-loop μ-loop
-add-visit c = let z = (sizes (c .before .before .before .before .before .before .before .before .before .before .before .before .before .before .before .before .before .before .before .before .before .pre) (c .before .before .before .before .before .before .before .before .before .before .before .before .listed .ensures) (c .before .before .before .before .before .before .before .before .before .before .before .loop .j) (c .before .before .before .before .before .before .before .before .before .before .loop-test .taken)) in omega (arith, z .low, z .small-a, z .small-b, z .low-x, z .low-y, z .rows, z .wide, z .along, z .cell, z .enough, z .next, z .before)
+add-visit c = (sizes (c .before .before .before .before .before .before .before .before .before .before .before .before .before .before .before .before .before .before .before .before .before .pre) (c .before .before .before .before .before .before .before .before .before .before .before .before .listed .ensures) (c .before .before .before .before .before .before .before .before .before .before .before .loop .j) (c .before .before .before .before .before .before .before .before .before .before .loop-test .taken)) .over-fits
 
 sub-visit : tie.Need-sub-visit Inv-loop μ-loop
-sub-visit c = let z = (sizes (c .before .before .before .before .before .before .before .before .before .before .before .before .before .before .before .before .before .before .before .before .before .pre) (c .before .before .before .before .before .before .before .before .before .before .before .before .listed .ensures) (c .before .before .before .before .before .before .before .before .before .before .before .loop .j) (c .before .before .before .before .before .before .before .before .before .before .loop-test .taken)) in omega (arith, z .low, z .small-a, z .small-b, z .low-x, z .low-y, z .rows, z .wide, z .along, z .cell, z .enough, z .next, z .before)
+sub-visit c = (sizes (c .before .before .before .before .before .before .before .before .before .before .before .before .before .before .before .before .before .before .before .before .before .pre) (c .before .before .before .before .before .before .before .before .before .before .before .before .listed .ensures) (c .before .before .before .before .before .before .before .before .before .before .before .loop .j) (c .before .before .before .before .before .before .before .before .before .before .loop-test .taken)) .over-low
 
 visit-requires : tie.Need-visit-requires Inv-loop μ-loop
 visit-requires c κs =
     let z = (sizes (c .before .before .before .before .before .before .before .before .before .before .before .before .before .before .before .before .before .before .before .before .before .pre) (c .before .before .before .before .before .before .before .before .before .before .before .before .listed .ensures) (c .before .before .before .before .before .before .before .before .before .before .before .loop .j) (c .before .before .before .before .before .before .before .before .before .before .loop-test .taken)) in
     let o = c .before .before .before .before .before .before .before .before .before .before .before .before .listed .ensures .only (c .before .before .before .before .before .before .before .before .before .before .before .loop .j) (c .before .before .before .before .before .before .before .before .before .before .loop-test .taken) in
-    rw (z .next, z .side, z .second) (round-may (c .before .before .before .before .before .before .before .before .before .before .before .before .before .before .before .before .before .before .before .before .before .pre) (c .before .before .before .before .before .before .before .before .before .before .before .loop .inv .1) refl (o .0) (o .1))
+    may-at z (round-may (c .before .before .before .before .before .before .before .before .before .before .before .before .before .before .before .before .before .before .before .before .before .pre) (c .before .before .before .before .before .before .before .before .before .before .before .loop .inv .1) refl (o .0) (o .1))
 
 add-j : tie.Need-add-j Inv-loop μ-loop
 add-j c = omega (arith, c .before .before .before .before .before .before .before .before .before .before .before .before .before .before .before .before .before .before .before .before .before .listed .ensures .few, c .before .before .before .before .before .before .before .before .before .before .before .before .before .before .before .before .before .before .before .loop-test .taken)
@@ -136,7 +136,7 @@ loop-again : tie.Need-loop-again Inv-loop μ-loop
 loop-again c =
     let z = (sizes (c .before .before .before .before .before .before .before .before .before .before .before .before .before .before .before .before .before .before .before .before .before .before .before .before .before .before .before .before .before .before .pre) (c .before .before .before .before .before .before .before .before .before .before .before .before .before .before .before .before .before .before .before .before .before .listed .ensures) (c .before .before .before .before .before .before .before .before .before .before .before .before .before .before .before .before .before .before .before .before .loop .j) (c .before .before .before .before .before .before .before .before .before .before .before .before .before .before .before .before .before .before .before .loop-test .taken)) in
     let o = c .before .before .before .before .before .before .before .before .before .before .before .before .before .before .before .before .before .before .before .before .before .listed .ensures .only (c .before .before .before .before .before .before .before .before .before .before .before .before .before .before .before .before .before .before .before .before .loop .j) (c .before .before .before .before .before .before .before .before .before .before .before .before .before .before .before .before .before .before .before .loop-test .taken) in
-    (omega (arith, c .before .before .before .before .before .before .before .before .before .before .before .before .before .before .before .before .before .before .before .loop-test .taken), round-on (c .before .before .before .before .before .before .before .before .before .before .before .before .before .before .before .before .before .before .before .before .before .before .before .before .before .before .before .before .before .before .pre) (c .before .before .before .before .before .before .before .before .before .before .before .before .before .before .before .before .before .before .before .before .loop .inv .1) refl (o .0) (o .1) (rw (z .next, z .side, z .second) at (c .before .before .before .before .before .before .before .before .visit .ensures)))
+    (omega (arith, c .before .before .before .before .before .before .before .before .before .before .before .before .before .before .before .before .before .before .before .loop-test .taken), round-on (c .before .before .before .before .before .before .before .before .before .before .before .before .before .before .before .before .before .before .before .before .before .before .before .before .before .before .before .before .before .before .pre) (c .before .before .before .before .before .before .before .before .before .before .before .before .before .before .before .before .before .before .before .before .loop .inv .1) refl (o .0) (o .1) (visited-at z (c .before .before .before .before .before .before .before .before .visit .ensures)))
 
 same-length : tie.Need-same-length Inv-loop μ-loop
 same-length c = c .before .loop .inv .1 .searching .cells ∙ sym (c .before .before .before .before .before .before .before .before .before .before .before .pre .searching .cells)

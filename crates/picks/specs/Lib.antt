@@ -1,0 +1,3 @@
+-- What the contracts of this crate speak of: which moves are picked, and how they are listed.
+pub mod Picks
+pub mod Listed

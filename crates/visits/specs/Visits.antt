@@ -1,0 +1,32 @@
+-- What one move from a cell does.
+use mathlib.Core.Path.{_≡_}
+use mathlib.Core.Logic.{_≢_}
+use mathlib.Core.Bool.{Bool, not, _&&_}
+use mathlib.Core.List.{List}
+use Prim.Native.Nat.{ℕ, _+_, _<_}
+use lib.Dec.{T, ltb}
+use lib.ListN.{length, set}
+use Rattle.disjoint.specs.Forest.{of, Forest}
+use Rattle.labels.specs.Labels.{Label, depthOf}
+use Rattle.labels.specs.Growth.{Met}
+
+-- "both ends walkable; a diagonal step also needs both cells that share a side with both ends to be walkable"
+unfoldable pub opens : List ℕ → ℕ → ℕ → ℕ → Bool
+opens states next first second = ltb 0 (of states next) && (ltb 0 (of states first) && ltb 0 (of states second))
+
+-- the move's cells are in the map, the queue has room for a cell that is labelled, and a label met is one of a resource
+pub record MayVisit (states queue parents ranks : List ℕ) (tail state next first second : ℕ) : Type 0 where
+  pub forest : Forest parents ranks
+  pub next-in : next < length states
+  pub first-in : first < length states
+  pub second-in : second < length states
+  pub label : Label (length parents) state
+  pub room : T (opens states next first second) → of states next ≡ 65535 → tail < length queue
+  pub labels : T (opens states next first second) → of states next ≢ 65535 → Label (length parents) (of states next)
+
+pub data Visited (states queue parents ranks : List ℕ) (tail state next point first second : ℕ) : List ℕ → List ℕ → List ℕ → List ℕ → ℕ → Type 0 where
+  shut : T (not (opens states next first second)) → Visited states queue parents ranks tail state next point first second states queue parents ranks tail
+  labelled : T (opens states next first second) → of states next ≡ 65535 →
+      Visited states queue parents ranks tail state next point first second (set states next (state + 1)) (set queue tail point) parents ranks (tail + 1)
+  met : {parents′ ranks′ : List ℕ} → T (opens states next first second) → of states next ≢ 65535 → Met parents parents′ ranks′ state (of states next) →
+      Visited states queue parents ranks tail state next point first second states queue parents′ ranks′ tail

@@ -1,0 +1,48 @@
+// One move from a cell: it is shut, labels the next cell, or meets its label.
+use labels::meet;
+ghost use mathlib.Core.Path.{_≡_};
+ghost use lib.ListN.{length};
+ghost use Prim.Native.Nat.{_<_};
+ghost use Rattle.visits.specs.Visits.{opens, MayVisit, Visited};
+
+// The next cell and the two that share a side with both ends are walkable. Of a straight move those are the two ends.
+pub fn open(states: &[u16], next: usize, first: usize, second: usize) -> bool
+    requires { ⌜ (next < length (now states)) × (first < length (now states)) × (second < length (now states)) ⌝ }
+    ensures { λ r. ⌜ r ≡ opens (now (states .entry)) next first second ⌝ }
+{
+    if states[next] == 0 {
+        return false;
+    }
+    if states[first] == 0 {
+        return false;
+    }
+    states[second] > 0
+}
+
+// Labels the next cell one deeper and puts it into the queue, or meets the label that it has; answers how many entries the queue has then.
+pub fn visit(
+    states: &mut [u16],
+    queue: &mut [u32],
+    parents: &mut [u16],
+    ranks: &mut [u8],
+    tail: usize,
+    state: u16,
+    next: usize,
+    point: u32,
+    first: usize,
+    second: usize,
+) -> usize
+    requires { ⌜ MayVisit (now states) (now queue) (now parents) (now ranks) tail state next first second ⌝ }
+    ensures { λ r. ⌜ Visited (now (states .entry)) (now (queue .entry)) (now (parents .entry)) (now (ranks .entry)) tail state next point first second (now (states .exit)) (now (queue .exit)) (now (parents .exit)) (now (ranks .exit)) r ⌝ }
+{
+    if !open(states, next, first, second) {
+        return tail;
+    }
+    if states[next] != 65535 {
+        meet::meet(parents, ranks, state, states[next]);
+        return tail;
+    }
+    states[next] = state + 1;
+    queue[tail] = point;
+    tail + 1
+}
