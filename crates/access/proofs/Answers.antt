@@ -20,9 +20,9 @@ use Rattle.rings.proofs.Sources.{ring-in-map}
 use Rattle.judge.proofs.Accepted.{grid}
 use Rattle.judge.proofs.Judging.{refuses, passes}
 use Rattle.access.specs.declared.call.Answer.{Answer}
-use Rattle.access.specs.Rows.{OnMap, ringPlaces}
+use Rattle.ringlists.specs.Rows.{OnMap, ringPlaces}
 use Rattle.access.specs.Answers.{answerOf, RingListed, short, fits}
-use Rattle.access.proofs.AccessRuns.{ring-accessed}
+use Rattle.ringlists.proofs.AccessRuns.{ring-accessed}
 
 module _ (w h : ℕ) (cells : List ℕ) (r : Rectangle) where
   -- ---- refusals 1 and 4

@@ -1,6 +1,3 @@
 -- The laws that the proofs of this crate cite.
-pub mod Places
-pub mod Listing
-pub mod RingRows
-pub mod AccessRuns
+pub mod RingListing
 pub mod Answers

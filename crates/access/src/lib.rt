@@ -1,5 +1,2 @@
 // Access of a rectangle: document 01, "Ring". The walkable cells around a resource, on the terrain without blockers.
 pub mod call;
-pub mod row;
-pub mod rows;
-pub mod run;

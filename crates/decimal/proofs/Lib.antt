@@ -6,6 +6,5 @@ pub mod Places
 pub mod Growing
 pub mod Limits
 pub mod Signs
-pub mod Writing
 pub mod RoundTrip
 pub mod Following

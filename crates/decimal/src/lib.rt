@@ -1,3 +1,2 @@
-// Decimal numbers in a text: read from a lent slice, and written to one. One text is accepted for each number, the one that is written.
+// Decimal numbers in a text, read from a lent slice. One text is accepted for each number.
 pub mod read;
-pub mod write;

@@ -1,3 +1,2 @@
--- What the contracts of this crate speak of: parents and ranks in lists, what a find leaves, and what joining leaves.
+-- What the contracts of this crate speak of: parents and ranks in lists, and what a find leaves.
 pub mod Forest
-pub mod Joining

@@ -11,7 +11,7 @@ use Rattle.walkgraph.proofs.Tests.{by-cases}
 use Rattle.walkgraph.proofs.LinkSearch.{joined-by}
 use Rattle.walkgraph.proofs.DisjointSet.{Root, top, up, Same}
 use Rattle.disjoint.specs.Forest.{of, Forest}
-use Rattle.disjoint.specs.Joining.{United}
+use Rattle.unions.specs.Joining.{United}
 use Rattle.labels.specs.Labels.{ownerOf, depthOf, Label}
 use Rattle.labels.specs.Growth.{Chained, Grown, Close, Met}
 

@@ -93,31 +93,34 @@ make-requires c κs =
     make-fits (input b) (lengths b) (before b) (same-lengths b) _ (rw (c .before .before .before .before .before .before .before .before .before .found2 .given .1) at (planned (c .before .before .before .before .before .before .before .before .before .before .before .before)))
 
 same-length : tie.Need-same-length
-same-length c = search needs
+same-length c = c .before .before .before .before .before .before .before .before .before .before .before .before .before .make .kept .1 .1 .1 .1 .0
 
 same-length-2 : tie.Need-same-length-2
-same-length-2 c = search needs
+same-length-2 c = c .before .before .before .before .before .before .before .before .before .before .before .before .before .make .kept .1 .1 .1 .1 .1 .0
 
 same-length-3 : tie.Need-same-length-3
-same-length-3 c = search needs
+same-length-3 c = c .before .before .before .before .before .before .before .before .before .before .before .before .before .make .kept .1 .1 .1 .1 .1 .1 .0
 
 same-length-4 : tie.Need-same-length-4
-same-length-4 c = search needs
+same-length-4 c = c .before .before .before .before .before .before .before .before .before .before .before .before .before .make .kept .1 .1 .1 .1 .1 .1 .1 .0
 
 same-length-5 : tie.Need-same-length-5
-same-length-5 c = search needs
+same-length-5 c = c .before .before .before .before .before .before .before .before .before .before .before .before .before .make .kept .1 .1 .1 .1 .1 .1 .1 .1 .0
 
 same-length-6 : tie.Need-same-length-6
-same-length-6 c = search needs
+same-length-6 c = c .before .before .before .before .before .before .before .before .before .before .before .before .before .make .kept .1 .1 .1 .1 .1 .1 .1 .1 .1 .0
 
 same-length-7 : tie.Need-same-length-7
-same-length-7 c = search needs
+same-length-7 c = c .before .before .before .before .before .before .before .before .before .before .before .before .before .make .kept .1 .1 .1 .1 .1 .1 .1 .1 .1 .1 .0
 
 returns-3 : tie.Need-returns-3
 unfolding answerOf
 returns-3 c =
-    let b = c .before .before .before .before .before .before .before .before .before .before .before .before .before .before .before .before .before .before .before .before .before .before .before .before .before .before .before .before .before .before .before .before .before .before in
-    call-made (input b) (lengths b) (before b) (same-lengths b) _ (rw (c .before .before .before .before .before .before .before .before .before .before .before .before .before .before .before .before .before .before .before .before .before .before .before .found2 .given .1) at (planned (c .before .before .before .before .before .before .before .before .before .before .before .before .before .before .before .before .before .before .before .before .before .before .before .before .before .before))) (c .before .before .before .before .before .before .before .before .before .before .before .before .before .make .ensures)
+    let m = c .before .before .before .before .before .before .before .before .before .before .before .before .before in
+    let b = m .before .before .before .before .before .before .before .before .before .before .before .before .before .before .before .before .before .before .before .before .before in
+    let l = m .make .last .1 .1 .1 .1 in
+    call-made (input b) (lengths b) (before b) (same-lengths b) _ (rw (m .before .before .before .before .before .before .before .before .before .before .found2 .given .1) at (planned (m .before .before .before .before .before .before .before .before .before .before .before .before .before)))
+    {after = lent (l .0) (l .1 .0) (l .1 .1 .0) (l .1 .1 .1 .0) (l .1 .1 .1 .1 .0) (l .1 .1 .1 .1 .1 .0) (l .1 .1 .1 .1 .1 .1 .0)} (m .make .ensures)
 
 pub field-spec : {M : Type 1} → statement M
 field-spec =

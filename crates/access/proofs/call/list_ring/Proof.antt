@@ -2,7 +2,7 @@
 use borrow.Author.Needs.{needs}
 use native.Mathlib.Omega.{arith}
 use Rattle.access.specs.Answers.{short}
-use Rattle.access.proofs.Listing.{ring-listed}
+use Rattle.access.proofs.RingListing.{ring-listed}
 use Rattle.access.proofs.call.list_ring.Statement.{statement}
 use Rattle.access.proofs.call.list_ring.Tie as tie
 

@@ -1,0 +1,2 @@
+-- A number written digit by digit.
+pub mod Writing

@@ -1,0 +1,36 @@
+-- What is listed in a lent buffer, and the room that it needs.
+use mathlib.Core.Path.{_≡_}
+use mathlib.Core.List.{List}
+use Prim.Native.Nat.{ℕ, _+_, _≤_, _<_}
+use lib.ListN.{length}
+use lib.Seq.{sets}
+use Rattle.walkgraph.specs.Map.{Box}
+use Rattle.ringlists.specs.declared.row.Runs.{Runs}
+use Rattle.ringlists.specs.Places.{openPlaces}
+use Rattle.ringlists.specs.Rows.{OnMap, InCells, rowPlaces, ringPlaces}
+
+-- places stand behind the `used` entries of a buffer, and the others stay; `end` entries are used then
+pub record Listed (places before : List ℕ) (used : ℕ) (after : List ℕ) (end : ℕ) : Type 0 where
+  pub ends : end ≡ used + length places
+  pub buffer : after ≡ sets before used places
+
+-- there is room for a cell's place, which is one of a map
+pub record Puts (places : List ℕ) (place used lent : ℕ) : Type 0 where
+  pub small : place < 1048576
+  pub room : used + length places ≤ lent
+
+-- a run is among the cells of a map, and there is room for its places
+pub record RunFits (cells : List ℕ) (from count used lent : ℕ) : Type 0 where
+  pub cells-in : from + count ≤ length cells
+  pub few : length cells ≤ 1048576
+  pub room : used + length (openPlaces cells from count) ≤ lent
+
+-- the same for the runs of a row
+pub record RowFits (cells : List ℕ) (runs : Runs) (used lent : ℕ) : Type 0 where
+  pub cells-in : InCells (length cells) runs
+  pub room : used + length (rowPlaces cells runs) ≤ lent
+
+-- and for a ring
+pub record RingFits (cells : List ℕ) (width : ℕ) (ring body : Box) (lent : ℕ) : Type 0 where
+  pub map : OnMap width (length cells) ring body
+  pub room : length (ringPlaces cells width ring body) ≤ lent

@@ -1,0 +1,2 @@
+// The disjoint set: joining classes.
+pub mod union;
