@@ -1,0 +1,1 @@
+// The access cells of all resources, labelled: what the search of the fields starts from.
