@@ -1,0 +1,2 @@
+-- The classes that the search leaves are the fields.
+pub mod Searched

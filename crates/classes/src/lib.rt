@@ -1,0 +1,1 @@
+// The classes of resources: which are one field, by their roots.
