@@ -1,2 +1,3 @@
--- The classes that the search leaves are the fields.
+-- The classes that the search leaves are the fields; buffers that end as 0.
+pub mod Clearing
 pub mod Searched
