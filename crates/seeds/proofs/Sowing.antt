@@ -1,10 +1,11 @@
 -- One more access cell is labelled, met or left alone.
-use mathlib.Core.Path.{_≡_, sym, _∙_, ap}
+use mathlib.Core.Path.{_≡_, refl, sym, _∙_, ap}
 use mathlib.Core.Logic.{_≢_, _⊎_, inl, inr, ⊎-elim}
 use mathlib.Core.List.{List}
 use Prim.Native.Nat.{ℕ, _+_, _*_, _/_, _%_, _≤_, _<_}
 use native.Mathlib.Decide.{ℕ-discrete}
 use native.Mathlib.Nat.{mod-lt, mul-le-mul, div-add-mod', div-lt-iff-lt-mul}
+use native.Mathlib.Numerals.{add-one}
 use native.Mathlib.Omega.{arith}
 use lib.Arith.{digits-div, digits-mod}
 use lib.ListN.{getD, length, set}
@@ -22,8 +23,8 @@ use Rattle.join.specs.Search.{cellOf, Walks, Seeds, Planting}
 use Rattle.join.proofs.Growing.{same-self}
 use Rattle.join.proofs.Searching.{is-label, at-new, at-old, walks-on, walks-off}
 use Rattle.join.proofs.Planting.{may-plant, plant-planted}
-use Rattle.seeds.specs.Sown.{Sowable}
-use Rattle.seeds.specs.Sowing.{pointOf, Done, SownTo, OfList}
+use Rattle.seeds.specs.Sown.{Sowable, Sown}
+use Rattle.seeds.specs.Sowing.{pointOf, Done, SownTo, OfList, OfCall}
 
 -- ---- the point of an index
 pub point-column : (width index : ℕ) → 1 ≤ width → width ≤ 1024 → pointOf width index % 1024 ≡ index % width
@@ -262,3 +263,63 @@ module _ {i : JoinInput} {r s a b : ℕ} {states queue parents ranks states′ q
 
   pub long-ranks : length ranks′ ≡ length ranks
   long-ranks = A .planting .forest .long ∙ long-parents ∙ sym (B .planting .forest .long)
+
+-- ---- list after list
+pub start-next : (ends : List ℕ) (r : ℕ) → startOf ends (r + 1) ≡ getD ends r 0
+unfolding startOf
+start-next ends r = rw (add-one r)
+
+pub start-first : (ends : List ℕ) → startOf ends 0 ≡ 0
+unfolding startOf
+start-first ends = refl
+
+-- a list is done, and none of the next
+pub sown-next : {i : JoinInput} {r to : ℕ} {states queue parents ranks : List ℕ} {tail : ℕ} → to ≡ getD (i .ends) r 0 → SownTo i r to states queue parents ranks tail →
+    SownTo i (r + 1) to states queue parents ranks tail
+sown-next {i} {r} {to} e B =
+    record {
+      planting = B .planting;
+      size = B .size;
+      walks-on = B .walks-on;
+      walks-off = B .walks-off;
+      every = λ s x y a d. B .every s x y a (before s x y a d);
+      only = B .only;
+      joined = B .joined;
+    }
+  where
+    before : (s x y : ℕ) (a : Access i s x y) → Done (r + 1) to s (a .place) → Done r to s (a .place)
+    before s x y a (inl h) =
+        by-cases (ℕ-discrete s r)
+        (λ q. inr (q, omega (arith, a .high, ap (λ t. getD (i .ends) t 0) q)))
+        (λ n. inl (omega arith))
+    before s x y a (inr h) = absurd (omega (arith, h .1, a .low, ap (startOf (i .ends)) (h .0), start-next (i .ends) r))
+
+pub sown-all : {i : JoinInput} {lists place : ℕ} {states queue parents ranks : List ℕ} {tail : ℕ} → SownTo i lists place states queue parents ranks tail → Sown i lists states queue parents ranks tail
+sown-all B =
+    record {
+      planting = B .planting;
+      size = B .size;
+      walks-on = B .walks-on;
+      walks-off = B .walks-off;
+      every = λ r x y h a. B .every r x y a (inl h);
+      only = B .only;
+      joined = B .joined;
+    }
+
+pub of-list : {i : JoinInput} {width : ℕ} {indices ends : List ℕ} {r from : ℕ} → OfCall i width indices ends → r < length ends → from ≡ startOf ends r → OfList i width indices r from (getD ends r 0)
+of-list {i} {ends = ends} {r = r} C h e =
+    let k : r < length (i .ends) = omega (arith, ap length (C .lists)) in
+    record {
+      sowable = C .sowable;
+      wide = C .wide;
+      list = C .list;
+      resource = k;
+      low = omega (arith, ap (λ l. startOf l r) (C .lists));
+      rise = omega (arith, ap (λ l. startOf l r) (C .lists), ap (λ l. getD l r 0) (C .lists), C .sowable .rise r k);
+      high = omega (arith, ap (λ l. getD l r 0) (C .lists));
+    }
+
+-- list r is done
+pub lists-more : {i : JoinInput} {width : ℕ} {indices ends : List ℕ} {r : ℕ} {states queue parents ranks : List ℕ} {tail : ℕ} → OfCall i width indices ends →
+    SownTo i r (getD ends r 0) states queue parents ranks tail → SownTo i (r + 1) (getD ends r 0) states queue parents ranks tail
+lists-more {r = r} C B = sown-next (sym (ap (λ l. getD l r 0) (C .lists))) B

@@ -10,7 +10,7 @@ use Rattle.walkgraph.proofs.DisjointSet.{Same}
 use Rattle.disjoint.specs.Forest.{of}
 use Rattle.join.specs.Labels.{ownerOf, depthOf}
 use Rattle.join.specs.Search.{Walks, Seeds, Planting}
-use Rattle.seeds.specs.Sown.{Sowable}
+use Rattle.seeds.specs.Sown.{Sowable, Sown}
 
 -- the states before any cell is labelled: 65,535 where the cell is walkable, 0 where not
 pub record Grounded (cells before states : List ℕ) : Type 0 where
@@ -45,6 +45,7 @@ pub record OfList (i : JoinInput) (width : ℕ) (indices : List ℕ) (r from to 
   pub rise : from ≤ to
   pub high : to ≤ getD (i .ends) r 0
 
+-- there is such an input, and the lists before r and the places before `from` are done
 pub record MaySow (width : ℕ) (indices : List ℕ) (r from to : ℕ) (states queue parents ranks : List ℕ) (tail : ℕ) : Type 0 where
   pub input : JoinInput
   pub places : OfList input width indices r from to
@@ -58,3 +59,34 @@ SownSo width indices r from to place states queue parents ranks tail states′ q
 -- and where all are
 abbrev pub Sows : (width : ℕ) (indices : List ℕ) (r from to : ℕ) (states queue parents ranks : List ℕ) (tail : ℕ) (states′ queue′ parents′ ranks′ : List ℕ) (tail′ : ℕ) → Type 0
 Sows width indices r from to = SownSo width indices r from to to
+
+-- an input of this width and with these lists
+pub record OfCall (i : JoinInput) (width : ℕ) (indices ends : List ℕ) : Type 0 where
+  pub sowable : Sowable i
+  pub wide : i .width ≡ width
+  pub list : i .indices ≡ indices
+  pub lists : i .ends ≡ ends
+
+-- there is such an input, and nothing is labelled
+pub record MaySowAll (width : ℕ) (indices ends states queue parents ranks : List ℕ) : Type 0 where
+  pub input : JoinInput
+  pub call : OfCall input width indices ends
+  pub sown : SownTo input 0 0 states queue parents ranks 0
+
+-- for each such input, the lists before r and the places before `place` are done
+abbrev pub SownOn : (width : ℕ) (indices ends : List ℕ) (r place : ℕ) (states queue parents ranks states′ queue′ parents′ ranks′ : List ℕ) (tail′ : ℕ) → Type 0
+SownOn width indices ends r place states queue parents ranks states′ queue′ parents′ ranks′ tail′ =
+    (i : JoinInput) → OfCall i width indices ends → SownTo i 0 0 states queue parents ranks 0 → SownTo i r place states′ queue′ parents′ ranks′ tail′
+
+-- and where all are
+abbrev pub SowsAll : (width : ℕ) (indices ends states queue parents ranks states′ queue′ parents′ ranks′ : List ℕ) (tail′ : ℕ) → Type 0
+SowsAll width indices ends states queue parents ranks states′ queue′ parents′ ranks′ tail′ =
+    (i : JoinInput) → OfCall i width indices ends → SownTo i 0 0 states queue parents ranks 0 → Sown i (length ends) states′ queue′ parents′ ranks′ tail′
+
+-- the call is not refused, and the buffers are those of its map and its resources
+pub record MaySeed (i : JoinInput) (states queue parents ranks : List ℕ) : Type 0 where
+  pub sowable : Sowable i
+  pub cells : length states ≡ i .height * i .width
+  pub room : length queue ≡ i .height * i .width
+  pub members : length parents ≡ length (i .ends)
+  pub long : length ranks ≡ length (i .ends)
