@@ -10,6 +10,10 @@ use Rattle.disjoint.specs.Forest.{of}
 use Rattle.join.specs.Labels.{ownerOf, depthOf}
 use Rattle.join.specs.Search.{Walks, Seeds, Planting}
 
+-- what a fields call is given
+abbrev pub inputOf : (width height : ℕ) (cells indices ends : List ℕ) → JoinInput
+inputOf width height cells indices ends = record { width = width; height = height; cells = cells; indices = indices; ends = ends }
+
 -- a fields call that is not refused: its map, at most 512 lists that never fall, and indices of cells
 pub record Sowable (i : JoinInput) : Type 0 where
   pub wide : (1 ≤ i .width) × (i .width ≤ 1024)
