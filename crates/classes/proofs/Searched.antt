@@ -17,10 +17,13 @@ use Rattle.disjoint.specs.Forest.{of}
 use Rattle.join.specs.Labels.{ownerOf}
 use Rattle.join.specs.Search.{Seeds, Links, Seeded, Ran}
 use Rattle.join.proofs.Running.{same-any, ran-joins}
+use Rattle.numbering.specs.Fields.{FieldNumbers}
+use Rattle.numbering.proofs.Giving.{fields-numbered}
 use Rattle.seeds.specs.Sown.{Sown}
 use Rattle.roots.specs.Roots.{AtRoots}
 use Rattle.roots.proofs.Rooting.{root-same, same-root}
-use Rattle.classes.specs.Classes.{Classes}
+use Rattle.classes.specs.Zeros.{Cleared}
+use Rattle.classes.specs.Classes.{Classes, FieldsFound}
 
 -- what has an access cell is a resource
 access-in : (i : JoinInput) {r x y : ℕ} → Access i r x y → r < length (i .ends)
@@ -90,3 +93,14 @@ module _ {i : JoinInput} {states₀ queue₀ parents₀ ranks₀ : List ℕ} {ta
           joins = λ r s h l e. same-joined r s (omega arith) (omega arith) (root-same g r s (omega arith) (omega arith) e);
           only = λ r s h l j. same-root g r s (omega arith) (omega arith) (joined-same j);
         }
+
+-- ---- the fields, numbered
+pub fields-found : {i : JoinInput} {parents before answers : List ℕ} {count : ℕ} → Classes i parents → FieldNumbers parents before answers count → {s q p r : List ℕ} → Cleared s q p r → FieldsFound i s q p r answers count
+fields-found {i} {parents} g f z =
+    let n = g .size in
+    record {
+      cleared = z;
+      numbered = rw n at (fields-numbered parents (g .joins) (g .only) f);
+      below = λ r h. f .numbers .below r (omega arith);
+      used = λ k h. let t = f .numbers .used k h in (t .0, omega (arith, t .1), t .2);
+    }
