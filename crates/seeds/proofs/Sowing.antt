@@ -242,12 +242,13 @@ module _ {i : JoinInput} {width : ℕ} {indices : List ℕ} {r k : ℕ} (L : OfL
       rw (← (L .list)) (omega (arith, s .cell k (omega (arith, L .high, s .high r (L .resource))), mul-le-mul (s .tall .1) (s .wide .1)))
 
   module _ {states queue parents ranks : List ℕ} {tail : ℕ} (B : SownTo i r k states queue parents ranks tail) where
-    pub place-may : MayPlant states queue parents ranks tail (32 * (r + 1)) (getD indices k 0)
-    place-may = rw (← (L .list)) (sow-may (L .sowable) B (L .resource) (L .low) (omega (arith, L .high)))
+    pub place-may : {label : ℕ} → label ≡ 32 * (r + 1) → MayPlant states queue parents ranks tail label (getD indices k 0)
+    place-may e = rw (e, ← (L .list)) (sow-may (L .sowable) B (L .resource) (L .low) (omega (arith, L .high)))
 
-    pub place-sown : {states′ queue′ parents′ ranks′ : List ℕ} {tail′ : ℕ} →
-        Planted states queue parents ranks tail (32 * (r + 1)) (getD indices k 0) (pointOf width (getD indices k 0)) states′ queue′ parents′ ranks′ tail′ → SownTo i r (k + 1) states′ queue′ parents′ ranks′ tail′
-    place-sown p = sown-more (L .sowable) B (L .resource) (L .low) (omega (arith, L .high)) (rw (← (L .wide), ← (L .list)) at p)
+    pub place-sown : {label : ℕ} {states′ queue′ parents′ ranks′ : List ℕ} {tail′ : ℕ} →
+        Planted states queue parents ranks tail label (getD indices k 0) (pointOf width (getD indices k 0)) states′ queue′ parents′ ranks′ tail′ → label ≡ 32 * (r + 1) →
+        SownTo i r (k + 1) states′ queue′ parents′ ranks′ tail′
+    place-sown p e = sown-more (L .sowable) B (L .resource) (L .low) (omega (arith, L .high)) (rw (e, ← (L .wide), ← (L .list)) at p)
 
 -- the lists keep their lengths
 module _ {i : JoinInput} {r s a b : ℕ} {states queue parents ranks states′ queue′ parents′ ranks′ : List ℕ} {tail tail′ : ℕ} (B : SownTo i r a states queue parents ranks tail)

@@ -18,7 +18,7 @@ abbrev μ-loop : tie.MeasureT-loop
     length ends - r
 
 loop-holds : tie.Need-loop-holds Inv-loop μ-loop
-loop-holds c = (omega arith, sym (start-first (c .before .before .before .before .before .before .args .ends .now)), λ i o s. s)
+loop-holds c = (omega arith, omega (arith, start-first (c .before .before .before .before .before .before .args .ends .now)), λ i o s. s)
 
 mul-to : tie.Need-mul-to Inv-loop μ-loop
 mul-to c = omega arith

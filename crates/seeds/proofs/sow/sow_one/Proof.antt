@@ -27,7 +27,7 @@ point-of-requires : tie.Need-point-of-requires
 point-of-requires c κs = let w = wide-enough (c .before .before .before .before .before .before .before .before .before .before .pre .places) in (w .0, w .1, index-small (c .before .before .before .before .before .before .before .before .before .before .pre .places))
 
 plant-requires : tie.Need-plant-requires
-plant-requires c κs = place-may (c .before .before .before .before .before .before .before .before .before .before .before .pre .places) (c .before .before .before .before .before .before .before .before .before .before .before .pre .sown)
+plant-requires c κs = place-may (c .before .before .before .before .before .before .before .before .before .before .before .pre .places) (c .before .before .before .before .before .before .before .before .before .before .before .pre .sown) (omega arith)
 
 same-length : tie.Need-same-length
 same-length c = search needs
@@ -42,7 +42,7 @@ same-length-4 : tie.Need-same-length-4
 same-length-4 c = search needs
 
 returns : tie.Need-returns
-returns c = λ i l s. place-sown l s (rw (c .before .before .before .before .before .before .before .before .before .point-of .ensures) at (c .before .before .before .before .before .before .before .before .plant .ensures))
+returns c = λ i l s. place-sown l s (rw (c .before .before .before .before .before .before .before .before .before .point-of .ensures) at (c .before .before .before .before .before .before .before .before .plant .ensures)) (omega arith)
 
 pub sow-one-spec : {M : Type 1} → statement M
 sow-one-spec =
