@@ -35,8 +35,8 @@ access-in i {r} a =
 
 module _ {i : JoinInput} {states₀ queue₀ parents₀ ranks₀ : List ℕ} {tail : ℕ} (S : Sown i (length (i .ends)) states₀ queue₀ parents₀ ranks₀ tail) where
   -- the search may begin
-  pub sown-seeded : Seeded (i .width) (i .height) states₀ queue₀ parents₀ ranks₀ tail
-  sown-seeded = record { searching = S .planting .searching; forest = S .planting .forest }
+  pub sown-seeded : {seeds : ℕ} → seeds ≡ tail → Seeded (i .width) (i .height) states₀ queue₀ parents₀ ranks₀ seeds
+  sown-seeded e = rw e (record { searching = S .planting .searching; forest = S .planting .forest })
 
   -- an access cell of a resource is labelled with one of its class
   abbrev owner : ℕ → ℕ → ℕ

@@ -10,7 +10,7 @@ use lib.Dec.{leb, ltb}
 use borrow.Author.Tests.{not-false, leb-true, ltb-false}
 use Rattle.walkgraph.specs.Buffers.{UsedPart}
 use Rattle.walkgraph.specs.Refusals.{badGrid, badAccess, shortJoin, joinVerdict, accepted}
-use Rattle.walkgraph.specs.FieldsPromise.{JoinInput, JoinLent, lengthsOf, fieldsVerdict, FieldsMade}
+use Rattle.walkgraph.specs.FieldsPromise.{JoinInput, JoinLent, lengthsOf, fieldsVerdict, joined, FieldsMade, FieldsPromise, joins}
 use Rattle.cells.proofs.Bools.{both}
 use Rattle.judge.proofs.Grids.{entry-least}
 use Rattle.judge.proofs.Accepted.{Grid, grid, AccessLists, lists}
@@ -111,3 +111,7 @@ module _ {i : JoinInput} {before : JoinLent} (p : Passed i before) where
       cell-part old part fits long z =
           let m = length (i .cells) in
           subst (λ (k : ℕ). UsedPart k (λ j. 0) old (part ++ drop m old)) (p .map .long) (zero-part m old part fits long z)
+
+-- the count that is given back is that of the fields
+pub call-joined : {i : JoinInput} {before after : JoinLent} {count fields : ℕ} → fieldsVerdict i before ≡ accepted → FieldsMade i before after fields → count ≡ fields → FieldsPromise i before after (joined count)
+call-joined v m e = rw e (joins v m)

@@ -13,8 +13,8 @@ use Rattle.roots.specs.Roots.{Rooting, AtRoots}
 pub rooting-none : {parents ranks : List ℕ} → Forest parents ranks → Rooting parents parents ranks 0
 rooting-none f = record { size = refl; forest = f; kept = λ q. q; root = λ j h. absurd (omega arith) }
 
-pub rooting-more : {before now after ranks : List ℕ} {m r : ℕ} → Forest before ranks → m < length before → Rooting before now ranks m → Found now after ranks m r → Rooting before after ranks (m + 1)
-rooting-more {before} {now} {after} {ranks} {m} {r} f h g n =
+more : {before now after ranks : List ℕ} {m r : ℕ} → Forest before ranks → m < length before → Rooting before now ranks m → Found now after ranks m r → Rooting before after ranks (m + 1)
+more {before} {now} {after} {ranks} {m} {r} f h g n =
     record { size = n .size ∙ g .size; forest = n .forest; kept = λ q. n .kept (g .kept q); root = root }
   where
     here : Root (of before) m (of after m)
@@ -29,6 +29,10 @@ rooting-more {before} {now} {after} {ranks} {m} {r} f h g n =
 
     root : (j : ℕ) → j < m + 1 → Root (of before) j (of after j)
     root j l = by-cases (ℕ-discrete j m) (λ e. rw e here) (λ e. earlier j (omega arith))
+
+-- the member that is found is the next one
+pub rooting-more : {before now after ranks : List ℕ} {m member r : ℕ} → Forest before ranks → m < length before → Rooting before now ranks m → Found now after ranks member r → member ≡ m → Rooting before after ranks (m + 1)
+rooting-more f h g n e = more f h g (rw e at n)
 
 pub rooting-all : {before after ranks : List ℕ} {m : ℕ} → m ≡ length before → Rooting before after ranks m → AtRoots before after
 rooting-all {before} {after} {ranks} {m} e g =

@@ -1,5 +1,6 @@
 -- `classes::classes`: the labels, the search from them and the roots, one after the other.
 use borrow.Author.Needs.{needs}
+use native.Mathlib.Omega.{arith}
 use Rattle.classes.proofs.Searched.{sown-seeded, classes-made}
 use Rattle.classes.proofs.classes.Statement.{statement}
 use Rattle.classes.proofs.classes.Tie as tie
@@ -8,7 +9,7 @@ seed-requires : tie.Need-seed-requires
 seed-requires c κs = search needs
 
 search-requires : tie.Need-search-requires
-search-requires c κs = sown-seeded (c .before .before .before .before .before .before .before .before .before .before .before .before .seed .ensures)
+search-requires c κs = sown-seeded (c .before .before .before .before .before .before .before .before .before .before .before .before .seed .ensures) (omega arith)
 
 rooted-requires : tie.Need-rooted-requires
 rooted-requires c κs = c .before .before .before .before .before .before .before .before .before .before .search .ensures .running .grown .forest

@@ -31,7 +31,7 @@ loop-again : tie.Need-loop-again Inv-loop μ-loop
 loop-again c =
     let b = c .before .before .before .before .before .before .before .before in
     let l = c .before .before .before .before .before .loop .inv in
-    (omega (arith, c .before .before .before .before .loop-test .taken), rooting-more (b .pre) (omega (arith, c .before .before .before .before .loop-test .taken)) (l .1) (c .before .before .find .ensures))
+    (omega (arith, c .before .before .before .before .loop-test .taken), rooting-more (b .pre) (omega (arith, c .before .before .before .before .loop-test .taken)) (l .1) (c .before .before .find .ensures) (omega arith))
 
 same-length : tie.Need-same-length Inv-loop μ-loop
 same-length c = c .before .loop .inv .1 .size

@@ -1,11 +1,13 @@
 -- `fields::call::fields`: judged, then refused with nothing written, or the fields found.
 use mathlib.Core.Path.{_≡_, sym, _∙_, ap}
+use native.Mathlib.Omega.{arith}
 use borrow.Author.Needs.{needs}
 use denote.Ref.{now}
-use Rattle.walkgraph.specs.FieldsPromise.{JoinInput, JoinLent, lengthsOf, fieldsVerdict, refuses, joins}
+use Rattle.walkgraph.specs.FieldsPromise.{JoinInput, JoinLent, lengthsOf, fieldsVerdict, refuses}
 use Rattle.judge.specs.Verdicts.{verdictOf}
 use Rattle.seeds.specs.Sown.{inputOf}
 use Rattle.fields.specs.Answers.{lent, answerOf}
+use Rattle.fields.proofs.Calls.{call-joined}
 use Rattle.fields.proofs.call.fields.Statement.{statement}
 use Rattle.fields.proofs.call.fields.Tie as tie
 
@@ -55,7 +57,7 @@ same-length-5 c = search needs
 
 returns-2 : tie.Need-returns-2
 unfolding answerOf verdictOf
-returns-2 c = joins (told (c .before .before .before .before .before .before .before .before .before .before .before .before .before .before .before .before .before .before) ∙ ap verdictOf (c .before .before .before .before .before .before .before .before .before .before .before .before .before .before .before .before .enum-told .given .1)) (c .before .before .before .before .before .before .before .before .before .before .joined .ensures)
+returns-2 c = call-joined (told (c .before .before .before .before .before .before .before .before .before .before .before .before .before .before .before .before .before .before) ∙ ap verdictOf (c .before .before .before .before .before .before .before .before .before .before .before .before .before .before .before .before .enum-told .given .1)) (c .before .before .before .before .before .before .before .before .before .before .joined .ensures) (omega arith)
 
 pub fields-spec : {M : Type 1} → statement M
 fields-spec =

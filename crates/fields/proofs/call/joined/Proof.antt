@@ -1,5 +1,6 @@
 -- `fields::call::joined`: the used parts of the buffers are lent on, and come back before the entries past them.
 use mathlib.Core.Path.{sym}
+use native.Mathlib.Omega.{arith}
 use lib.Seq.{length-take-le}
 use denote.Ref.{now}
 use borrow.Author.Needs.{needs}
@@ -45,7 +46,7 @@ slice-aggregate-numbers-4 : tie.Need-slice-aggregate-numbers-4
 slice-aggregate-numbers-4 c = let b = c .before .before .before .before .before .before .before .before .before .before .before .before in sym (length-take-le _ (now (b .args .ranks)) (known b .room .ranks))
 
 slice-relend-prefix-numbers-5 : tie.Need-slice-relend-prefix-numbers-5
-slice-relend-prefix-numbers-5 c = known (c .before .before .before .before .before .before .before .before .before .before .before .before) .room .answers
+slice-relend-prefix-numbers-5 c = omega (arith, known (c .before .before .before .before .before .before .before .before .before .before .before .before) .room .answers)
 
 slice-aggregate-numbers-5 : tie.Need-slice-aggregate-numbers-5
 slice-aggregate-numbers-5 c = let b = c .before .before .before .before .before .before .before .before .before .before .before .before .before in sym (length-take-le _ (now (b .args .answers)) (known b .room .answers))
