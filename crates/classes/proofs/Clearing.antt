@@ -1,6 +1,6 @@
--- Writing 0 to every entry, and a part of a buffer that ends as 0.
+-- Writing 0 to every entry, one after the other.
 use mathlib.Core.Path.{_≡_, _∙_}
-use mathlib.Core.List.{List, _++_}
+use mathlib.Core.List.{List}
 use Prim.Native.Nat.{ℕ, suc, _+_, _≤_, _<_}
 use native.Mathlib.Decide.{decLe, ℕ-discrete}
 use native.Mathlib.Omega.{arith}
