@@ -49,7 +49,7 @@ root-rank f r h e = rank-9 (f .sized) (omega (arith, f .few)) r h e
 
 -- ---- a find
 pub found-top : {p k : List ℕ} {i : ℕ} → Forest p k → i < length p → of p i ≡ i → Found p p k i i
-found-top f h e = record { below = h; root = top e; short = e; kept = λ q. q; size = refl; forest = f }
+found-top f h e = record { below = h; root = top e; short = e; kept = λ q. q; flat = λ j t. refl; size = refl; forest = f }
 
 -- where each root is as it was, a class is as large as it was
 sized-kept : {p p′ k root : ℕ → ℕ} {n : ℕ} → ((j s : ℕ) → Root p j s → Root p′ j s) → Sized p k root n → Sized p′ k root n
@@ -75,6 +75,7 @@ points-up {p} {p₁} {k} {i} {r} f h n g =
       root = q;
       short = e;
       kept = λ t. short-root s e rest (g .kept t);
+      flat = λ j t. by-cases (ℕ-discrete j i) (λ a. rw a (e ∙ root-self (rw a at t) (g .root))) (λ a. rest j a ∙ g .flat j t);
       size = z ∙ g .size;
       forest = record {
         long = g .forest .long ∙ sym z;

@@ -24,12 +24,13 @@ pub record Begun (before parents ranks : List ℕ) : Type 0 where
   pub forest : Forest parents ranks
   pub alone : (i : ℕ) → i < length parents → of parents i ≡ i
 
--- "The root of a resource is found by following parents, each call on the parent, paths shortened on the way back": r is the root of i and its parent now, and each root
--- is as it was
+-- "The root of a resource is found by following parents, each call on the parent, paths shortened on the way back": r is the root of i and its parent now, each root
+-- is as it was, and a parent that is a root stays
 pub record Found (before after ranks : List ℕ) (i r : ℕ) : Type 0 where
   pub below : r < length before
   pub root : Root (of before) i r
   pub short : of after i ≡ r
   pub kept : {j s : ℕ} → Root (of before) j s → Root (of after) j s
+  pub flat : (j : ℕ) → of before (of before j) ≡ of before j → of after j ≡ of before j
   pub size : length after ≡ length before
   pub forest : Forest after ranks

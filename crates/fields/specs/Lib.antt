@@ -1,2 +1,3 @@
--- The lengths of what the fields call is lent.
+-- The lengths of what the fields call is lent, and its answer.
+pub mod Answers
 pub mod Lengths

@@ -48,8 +48,8 @@ module _ {width height : ℕ} {states₀ parents₀ states queue parents ranks :
   ran l = record { tail = tail; head = head; running = R; last = l }
 
 -- ---- the end: what is linked is joined
-self : {p k : List ℕ} → Forest p k → (r : ℕ) → Same (of p) r r
-self {p} f r =
+pub same-any : {p k : List ℕ} → Forest p k → (r : ℕ) → Same (of p) r r
+same-any {p} f r =
     by-cases (decLe (suc r) (length p))
     (λ h. same-self f r h)
     (λ h.
@@ -72,6 +72,6 @@ ran-joins {width} {height} {states = states} {parents = parents} R j =
     joined width (Walks width height states) (Seeds width height states) (λ x y w. w .column) (λ r x y a. a .walks) (S .turn) (R .last)
     (λ r x y a.
     let l : T (isLabel (of states (y * width + x))) = is-label _ (a .walks .walks) (omega (arith, S .fits (y * width + x), a .depth)) in
-    (l, a .depth, rw (a .owner) (self f r)))
-    (λ r. self f r) (λ r u. same-back) (λ r u v. same-chain)
+    (l, a .depth, rw (a .owner) (same-any f r)))
+    (λ r. same-any f r) (λ r u. same-back) (λ r u v. same-chain)
     (joined-by (λ r s l. linked (alike-links (R .running .alike) r s l)) j)

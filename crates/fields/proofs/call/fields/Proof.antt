@@ -1,0 +1,76 @@
+-- `fields::call::fields`: judged, then refused with nothing written, or the fields found.
+use mathlib.Core.Path.{_≡_, sym, _∙_, ap}
+use native.Mathlib.Omega.{arith}
+use borrow.Author.Needs.{needs}
+use denote.Ref.{now}
+use Rattle.walkgraph.specs.FieldsPromise.{JoinInput, JoinLent, lengthsOf, fieldsVerdict, refuses}
+use Rattle.judge.specs.Verdicts.{verdictOf}
+use Rattle.seeds.specs.Sown.{inputOf}
+use Rattle.fields.specs.Answers.{lent, answerOf}
+use Rattle.fields.proofs.Calls.{call-joined}
+use Rattle.fields.proofs.call.fields.Statement.{statement}
+use Rattle.fields.proofs.call.fields.Tie as tie
+
+-- what the call is given, and what it is lent
+abbrev input : tie.Start → JoinInput
+input b = let a = b .args in inputOf (a .width) (a .height) (now (a .cells)) (now (a .indices)) (now (a .ends))
+
+abbrev before : tie.Start → JoinLent
+before b = let a = b .args in lent (now (a .states)) (now (a .queue)) (now (a .parents)) (now (a .ranks)) (now (a .answers))
+
+-- the verdict is the table's
+told : (c : tie.After-judged) → fieldsVerdict (input (c .before .before .before .before .before .before .before .before .before)) (before (c .before .before .before .before .before .before .before .before .before)) ≡ verdictOf (c .judged .result)
+unfolding fieldsVerdict lengthsOf
+told c = sym (c .judged .ensures)
+
+judged-requires : tie.Need-judged-requires
+judged-requires c κs = search needs
+
+enum-known-verdict : tie.Need-enum-known-verdict
+enum-known-verdict c = search needs
+
+returns : tie.Need-returns
+unfolding answerOf verdictOf
+returns c = refuses (told (c .before .before .before) ∙ ap verdictOf (c .before .verdict .given .1))
+
+enum-told : tie.Need-enum-told
+enum-told c = search needs
+
+joined-requires : tie.Need-joined-requires
+unfolding verdictOf
+joined-requires c κs = told (c .before .before .before .before .before .before .before) ∙ ap verdictOf (c .before .before .before .before .before .enum-told .given .1)
+
+same-length : tie.Need-same-length
+same-length c = search needs
+
+same-length-2 : tie.Need-same-length-2
+same-length-2 c = search needs
+
+same-length-3 : tie.Need-same-length-3
+same-length-3 c = search needs
+
+same-length-4 : tie.Need-same-length-4
+same-length-4 c = search needs
+
+same-length-5 : tie.Need-same-length-5
+same-length-5 c = search needs
+
+returns-2 : tie.Need-returns-2
+unfolding answerOf verdictOf
+returns-2 c = call-joined (told (c .before .before .before .before .before .before .before .before .before .before .before .before .before .before .before .before .before .before) ∙ ap verdictOf (c .before .before .before .before .before .before .before .before .before .before .before .before .before .before .before .before .enum-told .given .1)) (c .before .before .before .before .before .before .before .before .before .before .joined .ensures) (omega arith)
+
+pub fields-spec : {M : Type 1} → statement M
+fields-spec =
+    tie.close
+    (tie.spec
+    judged-requires
+    enum-known-verdict
+    returns
+    enum-told
+    joined-requires
+    same-length
+    same-length-2
+    same-length-3
+    same-length-4
+    same-length-5
+    returns-2)
