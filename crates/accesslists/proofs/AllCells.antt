@@ -1,0 +1,66 @@
+-- The access cells of the first rectangles and their ends, one rectangle more at a time.
+use mathlib.Core.Path.{_≡_, refl, ap, _∙_}
+use mathlib.Core.List.{List, [], _∷_, _++_}
+use Prim.Native.Nat.{ℕ, zero, suc, _+_, _/_, _≤_, _<_}
+use native.Mathlib.Nat.{mul-le-mul}
+use native.Mathlib.Numerals.{add-one}
+use native.Mathlib.Omega.{arith}
+use lib.ListN.{length, getD, length-append}
+use lib.IntN.{ℤ}
+use Rattle.walkgraph.specs.Lists.{tabulate}
+use Rattle.walkgraph.proofs.Lists.{length-tabulate, getD-tabulate}
+use Rattle.judge.proofs.Accepted.{fours}
+use Rattle.access.specs.Places.{inOrder}
+use Rattle.access.proofs.Places.{in-order-more, in-order-up, in-order-most}
+use Rattle.accesslists.specs.AllCells.{cellsOf, allCells, endsOf}
+use Rattle.accesslists.specs.Listing.{Judged}
+use Rattle.accesslists.proofs.Rectangles.{cells-most}
+
+module _ (w h : ℕ) (cells : List ℕ) (l : List ℤ) where
+  pub all-none : allCells w h cells l 0 ≡ []
+  unfolding allCells inOrder
+  all-none = refl
+
+  pub all-more : (k : ℕ) → allCells w h cells l (k + 1) ≡ allCells w h cells l k ++ cellsOf w h cells l k
+  unfolding allCells
+  all-more k = in-order-more (cellsOf w h cells l) k
+
+  pub all-length : (k : ℕ) → length (allCells w h cells l (k + 1)) ≡ length (allCells w h cells l k) + length (cellsOf w h cells l k)
+  all-length k = rw (all-more k) (length-append (allCells w h cells l k) (cellsOf w h cells l k))
+
+  pub all-up : (k n : ℕ) → k ≤ n → length (allCells w h cells l k) ≤ length (allCells w h cells l n)
+  unfolding allCells
+  all-up k n i = in-order-up (cellsOf w h cells l) k n i
+
+  -- there are fewer than a u32 counts
+  pub all-most : Judged w h cells l → (n : ℕ) → n ≤ length l / 4 → length (allCells w h cells l n) ≤ 536870912
+  unfolding allCells
+  all-most j n i =
+      let few : n ≤ 512 = omega (arith, fours 512 l (j .fours) .few) in
+      let each : 1048576 ≤ 1048576 = omega arith in
+      omega (arith, in-order-most (cellsOf w h cells l) 1048576 n (λ k m. cells-most (record { judged = j; there = omega arith })), mul-le-mul few each)
+
+-- ---- the ends
+tabulate-more : (n : ℕ) (f : ℕ → ℕ) → tabulate (suc n) f ≡ tabulate n f ++ (f n ∷ [])
+unfolding tabulate
+tabulate-more zero f = refl
+tabulate-more (suc n) f = ap (λ (l : List ℕ). f zero ∷ l) (tabulate-more n (λ i. f (suc i)))
+
+module _ (w h : ℕ) (cells : List ℕ) (l : List ℤ) where
+  pub ends-none : endsOf w h cells l 0 ≡ []
+  unfolding endsOf tabulate
+  ends-none = refl
+
+  pub ends-more : (k : ℕ) → endsOf w h cells l (k + 1) ≡ endsOf w h cells l k ++ (length (allCells w h cells l (k + 1)) ∷ [])
+  unfolding endsOf
+  ends-more k =
+      let f : ℕ → ℕ = λ k. length (allCells w h cells l (k + 1)) in
+      ap (λ (n : ℕ). tabulate n f) (add-one k) ∙ tabulate-more k f
+
+  pub ends-length : (n : ℕ) → length (endsOf w h cells l n) ≡ n
+  unfolding endsOf
+  ends-length n = length-tabulate n (λ k. length (allCells w h cells l (k + 1)))
+
+  pub end-at : (n k : ℕ) → k < n → getD (endsOf w h cells l n) k 0 ≡ length (allCells w h cells l (k + 1))
+  unfolding endsOf
+  end-at n k i = getD-tabulate n (λ k. length (allCells w h cells l (k + 1))) 0 k i
