@@ -4,7 +4,7 @@ use mathlib.Core.List.{List, [], _∷_, _++_, append-assoc}
 use Prim.Native.Nat.{ℕ, _+_, _-_, _/_, _≤_}
 use native.Mathlib.Omega.{arith}
 use lib.ListN.{length, take, drop, set, length-drop, take-append-drop}
-use lib.Seq.{sets, sets-eq, drop-append-le, drop-drop, length-take-le}
+use lib.Seq.{sets-eq, drop-append-le, drop-drop, length-take-le}
 use lib.IntN.{ℤ}
 use borrow.Rule.Slice.PartMut.{midOf, putMid, postOf}
 use Rattle.access.specs.Lists.{Listed}

@@ -2,13 +2,13 @@
 use mathlib.Core.Path.{_≡_, sym, _∙_}
 use mathlib.Core.Bool.{Bool, true, false}
 use mathlib.Core.List.{List}
-use Prim.Native.Nat.{ℕ, zero, suc, _+_, _*_, _-_, _/_, _≤_, min}
+use Prim.Native.Nat.{ℕ, zero, suc, _+_, _*_, _-_, _≤_}
 use native.Mathlib.Nat.{suc-mul, mul-le-mul}
 use native.Mathlib.Omega.{arith}
 use lib.ListN.{length, length-append}
 use lib.IntN.{ℤ}
 use Rattle.walkgraph.specs.Painting.{Rectangle, rectangle}
-use Rattle.walkgraph.specs.Ring.{body, ringBox, access, placesInRow, placesInRows, accessCells}
+use Rattle.walkgraph.specs.Ring.{ringBox, access, placesInRow, placesInRows, accessCells}
 use Rattle.walkgraph.specs.Refusals.{badResource}
 use Rattle.walkgraph.proofs.Tests.{cond-ind}
 use Rattle.cells.specs.declared.boxes.CellBox.{CellBox}
