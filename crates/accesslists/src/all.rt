@@ -30,10 +30,12 @@ pub fn list_all(
     requires { ⌜ AllFit width height (now cells) (now rectangles) (length (now indices)) (length (now ends)) ⌝ }
     ensures { λ r. ⌜ AllListed width height (now (cells .entry)) (now (rectangles .entry)) (lent (now (indices .entry)) (now (ends .entry))) (lent (now (indices .exit)) (now (ends .exit))) r ⌝ }
 {
+    let count = rectangles.len() / 4;
     let mut used: usize = 0;
-    for k in 0..rectangles.len() / 4 {
-        used = one::list_one(cells, rectangles, k, width, height, indices, used);
-        ends[k] = used as u32;
+    for k in 0..count {
+        let end = one::list_one(cells, rectangles, k, width, height, indices, used);
+        ends[k] = end as u32;
+        used = end;
     }
     used
 }

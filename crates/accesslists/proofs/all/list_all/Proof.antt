@@ -12,11 +12,11 @@ use Rattle.accesslists.proofs.all.list_all.Statement.{statement}
 use Rattle.accesslists.proofs.all.list_all.Tie as tie
 
 abbrev Inv-loop : tie.InvT-loop
-Inv-loop cells rectangles width height indices₀ ends₀ used₀ k₀ k-end indices ends used k =
+Inv-loop cells rectangles width height indices₀ ends₀ count used₀ k₀ indices ends used k =
     (k ≤ length rectangles / 4) × Listed (allCells width height cells rectangles k) indices₀ 0 indices used × Listed (endsOf width height cells rectangles k) ends₀ 0 ends k
 
 abbrev μ-loop : tie.MeasureT-loop
-μ-loop cells rectangles width height indices₀ ends₀ used₀ k₀ k-end indices ends used k = length rectangles / 4 - k
+μ-loop cells rectangles width height indices₀ ends₀ count used₀ k₀ indices ends used k = length rectangles / 4 - k
 
 loop-holds : tie.Need-loop-holds Inv-loop μ-loop
 loop-holds c =
@@ -33,7 +33,7 @@ list-one-requires c κs =
     let l = c .before .before .loop in
     let t = c .before .loop-test .taken in
     record {
-      one = record { judged = p .judged; there = t };
+      one = record { judged = p .judged; there = omega (arith, t) };
       room = omega (arith, l .inv .1 .ends, listed-length (l .inv .1), p .room, all-length (a .width) (a .height) (a .cells .now) (a .rectangles .now) (l .k), all-up (a .width) (a .height) (a .cells .now) (a .rectangles .now) (l .k + 1) (length (a .rectangles .now) / 4) (omega arith));
     }
 
