@@ -1,15 +1,17 @@
 -- The access cells of the first rectangles and their ends, one rectangle more at a time.
 use mathlib.Core.Path.{_≡_, refl, ap, _∙_}
+use mathlib.Core.Bool.{false}
 use mathlib.Core.List.{List, [], _∷_, _++_}
-use Prim.Native.Nat.{ℕ, zero, suc, _+_, _/_, _≤_, _<_}
+use Prim.Native.Nat.{ℕ, zero, suc, _+_, _*_, _/_, _≤_, _<_}
 use native.Mathlib.Nat.{mul-le-mul}
 use native.Mathlib.Numerals.{add-one}
 use native.Mathlib.Omega.{arith}
 use lib.ListN.{length, getD, length-append}
 use lib.IntN.{ℤ}
 use Rattle.walkgraph.specs.Lists.{tabulate}
+use Rattle.walkgraph.specs.Refusals.{badGrid}
 use Rattle.walkgraph.proofs.Lists.{length-tabulate, getD-tabulate}
-use Rattle.judge.proofs.Accepted.{fours}
+use Rattle.judge.proofs.Accepted.{grid, fours}
 use Rattle.access.specs.Places.{inOrder}
 use Rattle.access.proofs.Places.{in-order-more, in-order-up, in-order-most}
 use Rattle.accesslists.specs.AllCells.{cellsOf, allCells, endsOf}
@@ -32,13 +34,17 @@ module _ (w h : ℕ) (cells : List ℕ) (l : List ℤ) where
   unfolding allCells
   all-up k n i = in-order-up (cellsOf w h cells l) k n i
 
-  -- there are fewer than a u32 counts
-  pub all-most : Judged w h cells l → (n : ℕ) → n ≤ length l / 4 → length (allCells w h cells l n) ≤ 536870912
+  -- no more than n maps have cells
+  pub all-area : badGrid w h cells ≡ false → (n : ℕ) → length (allCells w h cells l n) ≤ n * (h * w)
   unfolding allCells
+  all-area e n = in-order-most (cellsOf w h cells l) (h * w) n (λ k i. cells-most w h cells l k e)
+
+  -- so there are fewer than a u32 counts
+  pub all-most : Judged w h cells l → (n : ℕ) → n ≤ length l / 4 → length (allCells w h cells l n) ≤ 536870912
   all-most j n i =
+      let g = grid w h cells (j .map) in
       let few : n ≤ 512 = omega (arith, fours 512 l (j .fours) .few) in
-      let each : 1048576 ≤ 1048576 = omega arith in
-      omega (arith, in-order-most (cellsOf w h cells l) 1048576 n (λ k m. cells-most (record { judged = j; there = omega arith })), mul-le-mul few each)
+      omega (arith, all-area (j .map) n, mul-le-mul few (mul-le-mul (g .along .most) (g .across .most)))
 
 -- ---- the ends
 tabulate-more : (n : ℕ) (f : ℕ → ℕ) → tabulate (suc n) f ≡ tabulate n f ++ (f n ∷ [])

@@ -5,7 +5,7 @@ use mathlib.Core.Bool.{false}
 use mathlib.Core.List.{List}
 use Prim.Native.Nat.{ℕ, _+_, _*_, _-_, _/_, _≤_, _<_}
 use native.Mathlib.Omega.{arith}
-use lib.ListN.{length, getD}
+use lib.ListN.{length, getD, drop, length-append}
 use lib.Seq.{take-at}
 use lib.IntN.{ℤ}
 use lib.Dec.{T}
@@ -24,7 +24,7 @@ use Rattle.judge.proofs.Accepted as found
 use Rattle.judge.proofs.Judging.{passes}
 use Rattle.accesslists.specs.AllCells.{cellsOf, allCells, endsOf}
 use Rattle.accesslists.specs.AccessListsPromise.{ListsLent, listedIn, AccessListsPromise, lists}
-use Rattle.accesslists.specs.Listing.{Judged}
+use Rattle.accesslists.specs.Listing.{AllFit}
 use Rattle.accesslists.specs.JoinLists.{joinInput}
 use Rattle.accesslists.proofs.AllCells.{ends-length}
 use Rattle.accesslists.proofs.Verdicts.{all-fit}
@@ -78,8 +78,21 @@ lists-are w h cells l before (lists ok) =
     let n = length l / 4 in
     rw (take-at (allCells w h cells l n) _ _ refl, take-at (endsOf w h cells l n) _ n (ends-length w h cells l n)) refl
 
-judged-of : (w h : ℕ) (cells : List ℕ) (l : List ℤ) (before : ListsLent) {after : ListsLent} {count : ℕ} → AccessListsPromise w h cells l before after (listed count) → Judged w h cells l
-judged-of w h cells l before (lists ok) = all-fit w h cells l _ _ ok .judged
+-- what is known of it: its map, its rectangles, and that both lists stand in the buffers
+pub listed-fit : (w h : ℕ) (cells : List ℕ) (l : List ℤ) (before : ListsLent) {after : ListsLent} {count : ℕ} → AccessListsPromise w h cells l before after (listed count) →
+    AllFit w h cells l (length (before .indices)) (length (before .ends))
+listed-fit w h cells l before (lists ok) = all-fit w h cells l _ _ ok
+
+pub lists-long : (w h : ℕ) (cells : List ℕ) (l : List ℤ) (before : ListsLent) {after : ListsLent} {count : ℕ} → AccessListsPromise w h cells l before after (listed count) →
+    (count ≤ length (after .indices)) × (length l / 4 ≤ length (after .ends))
+unfolding listedIn
+lists-long w h cells l before (lists ok) =
+    let n = length l / 4 in
+    let all = allCells w h cells l n in
+    let ends = endsOf w h cells l n in (
+      omega (arith, length-append all (drop (length all) (before .indices))),
+      omega (arith, length-append ends (drop n (before .ends)), ends-length w h cells l n),
+    )
 
 module _ (w h : ℕ) (cells : List ℕ) (l : List ℤ) (before : ListsLent) {after : ListsLent} {count : ℕ} (p : AccessListsPromise w h cells l before after (listed count)) where
   abbrev I : JoinInput
@@ -100,7 +113,7 @@ module _ (w h : ℕ) (cells : List ℕ) (l : List ℤ) (before : ListsLent) {aft
   pub room-decides : (lent : JoinLengths) → joinVerdict w h cells (I .indices) (I .ends) lent ≡ judge (shortJoin (w * h) (length l / 4) lent) 7 0 accepted
   unfolding joinVerdict
   room-decides lent =
-      let j = judged-of w h cells l before p in
+      let j = listed-fit w h cells l before p .judged in
       let few = fours 512 l (j .fours) .few in
       let e = ends-count in
       sym

@@ -9,14 +9,14 @@ use lib.ListN.{length, length-append}
 use lib.IntN.{ℤ}
 use Rattle.walkgraph.specs.Painting.{Rectangle, rectangle}
 use Rattle.walkgraph.specs.Ring.{ringBox, access, placesInRow, placesInRows, accessCells}
-use Rattle.walkgraph.specs.Refusals.{badResource}
+use Rattle.walkgraph.specs.Refusals.{badGrid, badResource}
 use Rattle.walkgraph.proofs.Tests.{cond-ind}
 use Rattle.cells.specs.declared.boxes.CellBox.{CellBox}
 use Rattle.cells.specs.Boxes.{boxOf}
 use Rattle.cells.proofs.Bools.{clash}
 use Rattle.rings.specs.Rings.{Accepted}
 use Rattle.rings.proofs.Search.{all-good}
-use Rattle.judge.proofs.Accepted.{Grid, grid}
+use Rattle.judge.proofs.Accepted.{grid}
 use Rattle.access.specs.Rows.{OnMap, ringPlaces}
 use Rattle.access.proofs.Answers.{found-on-map, found-access}
 use Rattle.accesslists.specs.AllCells.{cellsOf}
@@ -36,17 +36,17 @@ rows-most width test x columns y zero = omega arith
 rows-most width test x columns y (suc n) =
     omega (arith, rows-most width test x columns (suc y) n, row-most width test y x columns, length-append (placesInRow width test y x columns) (placesInRows width test x columns (suc y) n), suc-mul n columns)
 
-access-most : (w h : ℕ) (cells : List ℕ) (r : Rectangle) → Grid w h cells → length (accessCells w h cells r) ≤ 1048576
+access-most : (w h : ℕ) (cells : List ℕ) (r : Rectangle) → 1 ≤ w → 1 ≤ h → length (accessCells w h cells r) ≤ h * w
 unfolding accessCells ringBox
-access-most w h cells r g =
+access-most w h cells r i j =
     let b = ringBox w h r in
-    let wide = g .across .most in
-    let some = g .across .some in
-    let high = g .along .most in
-    let tall = g .along .some in
-    let columns : b .right + 1 - b .left ≤ 1024 = omega arith in
-    let rows : b .bottom + 1 - b .top ≤ 1024 = omega arith in
+    let columns : b .right + 1 - b .left ≤ w = omega arith in
+    let rows : b .bottom + 1 - b .top ≤ h = omega arith in
     omega (arith, rows-most w (access w h cells r) (b .left) (b .right + 1 - b .left) (b .top) (b .bottom + 1 - b .top), mul-le-mul rows columns)
+
+pub cells-most : (w h : ℕ) (cells : List ℕ) (l : List ℤ) (k : ℕ) → badGrid w h cells ≡ false → length (cellsOf w h cells l k) ≤ h * w
+unfolding cellsOf
+cells-most w h cells l k e = let g = grid w h cells e in access-most w h cells (rectangle l k) (g .across .some) (g .along .some)
 
 -- ---- rectangle k
 module _ {w h : ℕ} {cells : List ℕ} {l : List ℤ} {k : ℕ} (o : OneOf w h cells l k) where
@@ -62,10 +62,6 @@ module _ {w h : ℕ} {cells : List ℕ} {l : List ℤ} {k : ℕ} (o : OneOf w h 
 
   pub not-refused {ℓ} : {A : Type ℓ} → badResource w h (rectangle l k) ≡ true → A
   not-refused e = absurd (clash (sym e ∙ good))
-
-  pub cells-most : length (cellsOf w h cells l k) ≤ 1048576
-  unfolding cellsOf
-  cells-most = access-most w h cells (rectangle l k) (grid w h cells (o .judged .map))
 
   -- its ring box and its body as the code has them
   module _ (ring core : CellBox) (e : Accepted w h (rectangle l k) ring core) where

@@ -2,14 +2,14 @@
 use mathlib.Core.Path.{_≡_, refl, sym, ap, _∙_}
 use mathlib.Core.Bool.{true, false}
 use mathlib.Core.List.{List}
-use Prim.Native.Nat.{ℕ, _/_, _≤_, _<_}
+use Prim.Native.Nat.{ℕ, _*_, _/_, _≤_, _<_}
 use native.Mathlib.Omega.{arith}
 use lib.ListN.{length}
 use lib.IntN.{ℤ}
 use lib.Dec.{ltb}
 use borrow.Author.Tests.{lt-ltb, le-ltb, ltb-false}
 use Rattle.walkgraph.specs.Painting.{rectangle}
-use Rattle.walkgraph.specs.Refusals.{accepted, refused, badGrid, badFours, badResource, firstBadResource}
+use Rattle.walkgraph.specs.Refusals.{accepted, refused, judge, badGrid, badFours, badResource, firstBadResource}
 use Rattle.walkgraph.specs.AccessPromise.{refusal, listed}
 use Rattle.walkgraph.proofs.Lists.{first-from}
 use Rattle.cells.proofs.Bools.{neither}
@@ -18,6 +18,7 @@ use Rattle.accesslists.specs.AllCells.{allCells}
 use Rattle.accesslists.specs.AccessListsPromise.{ListsLent, listsVerdict, AccessListsPromise}
 use Rattle.accesslists.specs.AccessListsPromise as promise
 use Rattle.accesslists.specs.Listing.{Judged, AllFit, AllListed}
+use Rattle.accesslists.proofs.AllCells.{all-area}
 
 pub judged-all : (w h : ℕ) (cells : List ℕ) (l : List ℤ) (bad : ℕ) → badGrid w h cells ≡ false → badFours 512 l ≡ false → bad ≡ firstBadResource w h l → length l / 4 ≤ bad →
     Judged w h cells l
@@ -60,6 +61,14 @@ module _ (w h : ℕ) (cells : List ℕ) (l : List ℤ) (indices ends : ℕ) wher
     pub none-short : length (allCells w h cells l (length l / 4)) ≤ indices → length l / 4 ≤ ends → accepted ≡ listsVerdict w h cells l indices ends
     unfolding listsVerdict
     none-short i k = passes 1 0 (j .map) (passes 3 0 (j .fours) (passes 4 _ good-rectangles (passes 7 0 (rw (le-ltb indices _ i) (le-ltb ends _ k)) refl)))
+
+  -- ---- with room for as many indices as n maps have cells, 7 is not given
+  pub with-room : badGrid w h cells ≡ false → length l / 4 * (h * w) ≤ indices → length l / 4 ≤ ends →
+      listsVerdict w h cells l indices ends ≡ judge (badFours 512 l) 3 0 (judge (ltb (firstBadResource w h l) (length l / 4)) 4 (firstBadResource w h l) accepted)
+  unfolding listsVerdict judge
+  with-room e i k =
+      let n = length l / 4 in
+      rw (e, le-ltb indices (length (allCells w h cells l n)) (omega (arith, all-area w h cells l e n)), le-ltb ends n k)
 
   -- ---- an accepted call
   pub all-fit : listsVerdict w h cells l indices ends ≡ accepted → AllFit w h cells l indices ends
