@@ -20,6 +20,7 @@ use Rattle.accesslists.specs.AccessListsPromise as promise
 use Rattle.accesslists.specs.Listing.{Judged, AllFit, AllListed}
 use Rattle.accesslists.proofs.AllCells.{all-area}
 
+-- the search finds no rectangle that is refused
 pub judged-all : (w h : ℕ) (cells : List ℕ) (l : List ℤ) (bad : ℕ) → badGrid w h cells ≡ false → badFours 512 l ≡ false → bad ≡ firstBadResource w h l → length l / 4 ≤ bad →
     Judged w h cells l
 unfolding firstBadResource

@@ -15,8 +15,8 @@ pub record ListsLent : Type 0 where
   pub indices : List ℕ
   pub ends : List ℕ
 
--- "Access: 1, 4, 7", each as the field call has it, and 3 COUNT before 4: numbers not in fours or, as for fields, n > 512. 7 SCRATCH is a lent buffer
--- "shorter than needed": so many indices than all access cells, or so many ends than there are rectangles.
+-- "Access: 1, 4, 7", each as the field call has it, and 3 COUNT before 4: numbers not in fours or, as for fields, n > 512. 7 SCRATCH, "a lent buffer
+-- is shorter than needed": fewer indices than all access cells together, or fewer ends than rectangles.
 unfoldable pub listsVerdict : ℕ → ℕ → List ℕ → List ℤ → ℕ → ℕ → Verdict
 listsVerdict width height cells rectangles indices ends =
     let n = length rectangles / 4 in
