@@ -74,7 +74,7 @@ module _ (w h : ℕ) (cells : List ℕ) (r : Rectangle) where
       pub found-on-map : OnMap w (length cells) (boxOf ring) (boxOf core)
       found-on-map = rw (e .ring, e .body) ring-on-map
 
-      found-access : ringPlaces cells w (boxOf ring) (boxOf core) ≡ accessCells w h cells r
+      pub found-access : ringPlaces cells w (boxOf ring) (boxOf core) ≡ accessCells w h cells r
       found-access = rw (e .ring, e .body) (ring-accessed w h cells r (ring-on-map .grid) (ring-in-map w h r (on-map w h r good) .tall))
 
       pub ring-answered : {before after : List ℕ} {a : Answer} → RingListed (ringPlaces cells w (boxOf ring) (boxOf core)) before after a → AccessPromise w h cells r before after (answerOf a)
