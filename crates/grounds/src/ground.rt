@@ -16,7 +16,7 @@ ghost use Rattle.flags.specs.Flags.{flagsFilled};
 ghost use Rattle.intervals.specs.Intervals.{rowsFilled};
 ghost use Rattle.startcells.specs.Hits.{startedLevels};
 ghost use Rattle.start.specs.Hits.{lanesHit};
-ghost use Rattle.make.specs.Grounds.{GroundFits, BeginFits, unreachableLevels};
+ghost use Rattle.grounds.specs.Grounds.{GroundFits, BeginFits, unreachableLevels};
 
 // The walk bytes and the flags of the window.
 pub fn ground(site: Site, cells: &[u8], blockers: &[i32], walk: &mut [u8], flags: &mut [u8])

@@ -6,9 +6,9 @@ use native.Mathlib.Omega.{arith}
 use denote.Ref.{now}
 use Rattle.walkgraph.specs.Lists.{placed}
 use Rattle.window.specs.Fills.{entries, zeros}
-use Rattle.make.specs.Versions.{never}
-use Rattle.make.proofs.versions.unpulled.Statement.{statement}
-use Rattle.make.proofs.versions.unpulled.Tie as tie
+use Rattle.grounds.specs.Versions.{never}
+use Rattle.grounds.proofs.versions.unpulled.Statement.{statement}
+use Rattle.grounds.proofs.versions.unpulled.Tie as tie
 
 add-set : tie.Need-add-set
 add-set c = search needs

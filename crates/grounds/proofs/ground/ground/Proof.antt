@@ -3,9 +3,9 @@ use native.Mathlib.Omega.{arith}
 use denote.Ref.{now}
 use borrow.Author.Needs.{needs}
 use Rattle.window.specs.Fills.{entries}
-use Rattle.make.proofs.Grounds.{limits, site-copies, site-paints, site-flag-rows, walk-filled, flags-filled}
-use Rattle.make.proofs.ground.ground.Statement.{statement}
-use Rattle.make.proofs.ground.ground.Tie as tie
+use Rattle.grounds.proofs.Grounds.{limits, site-copies, site-paints, site-flag-rows, walk-filled, flags-filled}
+use Rattle.grounds.proofs.ground.ground.Statement.{statement}
+use Rattle.grounds.proofs.ground.ground.Tie as tie
 
 padded-requires : tie.Need-padded-requires
 padded-requires c κs =

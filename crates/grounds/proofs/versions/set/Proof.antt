@@ -6,8 +6,8 @@ use lib.ListN.{length, length-set}
 use Rattle.walkgraph.specs.Lists.{placed}
 use Rattle.window.specs.Fills.{entries}
 use Rattle.window.proofs.Fills.{placed-none, placed-store}
-use Rattle.make.proofs.versions.set.Statement.{statement}
-use Rattle.make.proofs.versions.set.Tie as tie
+use Rattle.grounds.proofs.versions.set.Statement.{statement}
+use Rattle.grounds.proofs.versions.set.Tie as tie
 
 abbrev Inv-loop : tie.InvT-loop
 Inv-loop numbers₀ from count number k₀ numbers k = (k ≤ count) × (length numbers ≡ length numbers₀) × (entries numbers ≡ placed (entries numbers₀) from k (λ (i : ℕ). number))

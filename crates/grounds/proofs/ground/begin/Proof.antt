@@ -7,9 +7,9 @@ use borrow.Author.Needs.{needs}
 use Rattle.lane.specs.Levels.{levelAt}
 use Rattle.window.specs.Fills.{entries}
 use Rattle.start.specs.Hits.{lanesHit}
-use Rattle.make.proofs.Grounds.{limits, lanes-small, site-row-ends, site-room, levels-begun}
-use Rattle.make.proofs.ground.begin.Statement.{statement}
-use Rattle.make.proofs.ground.begin.Tie as tie
+use Rattle.grounds.proofs.Grounds.{limits, lanes-small, site-row-ends, site-room, levels-begun}
+use Rattle.grounds.proofs.ground.begin.Statement.{statement}
+use Rattle.grounds.proofs.ground.begin.Tie as tie
 
 write-rows-requires : tie.Need-write-rows-requires
 write-rows-requires c κs =

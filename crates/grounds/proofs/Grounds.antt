@@ -34,7 +34,7 @@ use Rattle.intervals.proofs.RowsMade.{first-made, past-made}
 use Rattle.lane.specs.Levels.{LaneCount}
 use Rattle.start.specs.Hits.{Room}
 use Rattle.startcells.specs.Hits.{startedLevels}
-use Rattle.make.specs.Grounds.{unreachableLevels}
+use Rattle.grounds.specs.Grounds.{unreachableLevels}
 
 -- the window in the limits of a map
 pub record Limits (w : Window) : Type 0 where
