@@ -1,0 +1,4 @@
+pub mod Fours
+pub mod Forms
+pub mod Rows
+pub mod Answers
