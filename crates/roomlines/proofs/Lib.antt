@@ -5,3 +5,5 @@ pub mod Counting
 pub mod Parts
 pub mod Stored
 pub mod Sections
+pub mod Bits
+pub mod Lined
