@@ -5,5 +5,3 @@ pub mod Counting
 pub mod Parts
 pub mod Stored
 pub mod Sections
-pub mod Bits
-pub mod Lined

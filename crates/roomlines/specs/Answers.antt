@@ -1,7 +1,6 @@
 -- The code's answers as what was found.
 use Rattle.roomlines.specs.Fours.{FourFound, four, no-four, LineTaken, line-up-to, no-line}
 use Rattle.roomlines.specs.Forms.{CountFound, count, no-count, LinesFound, up-to, broken, SectionFound, section, section-broken}
-use Rattle.roomlines.specs.Rows.{RowsFound, rows, rows-broken, GridFound, grid, grid-broken}
 use Rattle.roomlines.specs.declared.counts.FoundCount.{FoundCount}
 use Rattle.roomlines.specs.declared.counts.FoundCount.the-variants as counts
 use Rattle.roomlines.specs.declared.rectangles.FoundFour.{FoundFour}
@@ -12,10 +11,6 @@ use Rattle.roomlines.specs.declared.rectangles.FoundLines.{FoundLines}
 use Rattle.roomlines.specs.declared.rectangles.FoundLines.the-variants as lines
 use Rattle.roomlines.specs.declared.rectangles.FoundSection.{FoundSection}
 use Rattle.roomlines.specs.declared.rectangles.FoundSection.the-variants as sections
-use Rattle.roomlines.specs.declared.grid.FoundRows.{FoundRows}
-use Rattle.roomlines.specs.declared.grid.FoundRows.the-variants as foundrows
-use Rattle.roomlines.specs.declared.grid.FoundGrid.{FoundGrid}
-use Rattle.roomlines.specs.declared.grid.FoundGrid.the-variants as grids
 
 -- a count, and the place after its line
 unfoldable pub countFound : FoundCount → CountFound
@@ -41,13 +36,3 @@ linesFound (lines.Broken passed) = broken passed
 unfoldable pub sectionFound : FoundSection → SectionFound
 sectionFound (sections.Section number past) = section number past
 sectionFound (sections.Broken passed) = section-broken passed
-
--- the width of rows and the place after them, or how many there are before the line that breaks
-unfoldable pub rowsFound : FoundRows → RowsFound
-rowsFound (foundrows.Rows width past) = rows width past
-rowsFound (foundrows.Broken passed) = rows-broken passed
-
--- the size of a map and the place after it, or how many lines there are before the one that breaks
-unfoldable pub gridFound : FoundGrid → GridFound
-gridFound (grids.Grid width height past) = grid width height past
-gridFound (grids.Broken passed) = grid-broken passed

@@ -1,4 +1,3 @@
 pub mod Fours
 pub mod Forms
-pub mod Rows
 pub mod Answers

@@ -1,4 +1,3 @@
-// The lines of a room text: counts, lines of four numbers, and rows of cells. What is read is stored in lent buffers.
+// Lines of a room text: counts, and lines of four numbers. What is read is stored in a lent buffer.
 pub mod counts;
-pub mod grid;
 pub mod rectangles;

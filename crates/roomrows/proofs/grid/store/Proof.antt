@@ -1,4 +1,4 @@
--- `roomlines::grid::store`: one cell after another.
+-- `roomrows::grid::store`: one cell after another.
 use mathlib.Core.Path.{_≡_, _∙_, ap}
 use mathlib.Core.List.{map}
 use Prim.Native.Nat.{_-_, _≤_}
@@ -6,10 +6,10 @@ use native.Mathlib.Omega.{arith}
 use borrow.Author.Needs.{needs}
 use lib.ListN.{length, take, drop}
 use lib.Seq.{sets, length-sets}
-use Rattle.roomlines.specs.Rows.{cellOf}
-use Rattle.roomlines.proofs.Bits.{stored-none, stored-more}
-use Rattle.roomlines.proofs.grid.store.Statement.{statement}
-use Rattle.roomlines.proofs.grid.store.Tie as tie
+use Rattle.roomrows.specs.Rows.{cellOf}
+use Rattle.roomrows.proofs.Bits.{stored-none, stored-more}
+use Rattle.roomrows.proofs.grid.store.Statement.{statement}
+use Rattle.roomrows.proofs.grid.store.Tie as tie
 
 abbrev Inv-loop : tie.InvT-loop
 Inv-loop text at width cells₀ place k₀ cells k = (cells ≡ sets cells₀ place (map cellOf (take k (drop at text)))) × (k ≤ width)

@@ -1,14 +1,14 @@
--- `roomlines::grid::rows_of`: the rows so far are read and stored.
+-- `roomrows::grid::rows_of`: the rows so far are read and stored.
 use mathlib.Core.Bool.{true}
 use Prim.Native.Nat.{_+_, _-_}
 use native.Mathlib.Omega.{arith}
 use borrow.Author.Needs.{needs}
 use borrow.Author.Tests.{not-true, not-false}
-use Rattle.roomlines.specs.Rows.{JudgesRow}
-use Rattle.roomlines.specs.Answers.{rowsFound}
-use Rattle.roomlines.proofs.Lined.{RowsRead, rows-none, rows-length, rows-room, rows-turn, rows-taken, rows-stop}
-use Rattle.roomlines.proofs.grid.rows_of.Statement.{statement}
-use Rattle.roomlines.proofs.grid.rows_of.Tie as tie
+use Rattle.roomrows.specs.Rows.{JudgesRow}
+use Rattle.roomrows.specs.Answers.{rowsFound}
+use Rattle.roomrows.proofs.Lined.{RowsRead, rows-none, rows-length, rows-room, rows-turn, rows-taken, rows-stop}
+use Rattle.roomrows.proofs.grid.rows_of.Statement.{statement}
+use Rattle.roomrows.proofs.grid.rows_of.Tie as tie
 
 abbrev Inv-loop : tie.InvT-loop
 Inv-loop text at count width cells₀ from₀ to₀ passed₀ cells from to passed = RowsRead text at count width cells₀ cells from to passed

@@ -1,12 +1,12 @@
--- `roomlines::grid::rows`: the first line tells the width.
+-- `roomrows::grid::rows`: the first line tells the width.
 use native.Mathlib.Omega.{arith}
 use borrow.Author.Needs.{needs}
 use Rattle.textlines.specs.Lines.{FindsLine, ends}
 use Rattle.textlines.specs.Answers.{lineFound}
-use Rattle.roomlines.specs.Answers.{rowsFound}
-use Rattle.roomlines.proofs.Lined.{unended-broken, empty-broken, line-from, first-line}
-use Rattle.roomlines.proofs.grid.rows.Statement.{statement}
-use Rattle.roomlines.proofs.grid.rows.Tie as tie
+use Rattle.roomrows.specs.Answers.{rowsFound}
+use Rattle.roomrows.proofs.Lined.{unended-broken, empty-broken, line-from, first-line}
+use Rattle.roomrows.proofs.grid.rows.Statement.{statement}
+use Rattle.roomrows.proofs.grid.rows.Tie as tie
 
 line-end-requires : tie.Need-line-end-requires
 line-end-requires c κs = search needs

@@ -11,9 +11,9 @@ use lib.Dec.{eqb}
 use lib.ListN.{length, getD, take, drop, set, length-drop, length-map, take-append-drop, List·getD-append}
 use lib.Seq.{sets, length-take-le, take-suc, drop-cons, drop-drop, getD-drop, getD-take, getD-append-seam}
 use Rattle.decimal.proofs.Digits.{by-cases, clash}
-use Rattle.roomlines.specs.Rows.{isCell, cellOf, JudgesRow, row-stands, no-row}
+use Rattle.roomrows.specs.Rows.{isCell, cellOf, JudgesRow, row-stands, no-row}
 use Rattle.roomlines.proofs.Spelled.{part-length}
 use Rattle.roomlines.proofs.Parts.{map-append, sets-append}
 
 -- ---- bytes
 pub cell-dot : (byte : ℕ) → byte ≡ 46 → 1 ≡ cellOf byte

@@ -11,14 +11,14 @@ use Rattle.decimal.specs.Numbers.{decimalOf}
 use Rattle.decimal.proofs.Digits.{clash}
 use Rattle.textlines.specs.Lines.{textOf, LineAt, ends, unended, FindsLine, line, none}
 use Rattle.textlines.proofs.Lines.{line-one}
 use Rattle.roomlines.specs.Forms.{BreaksIn, LinesAt, count, no-count, ReadsCount, refuses-count}
-use Rattle.roomlines.specs.Rows.{isCell, cellOf, cellsOf, RowOf, AllRows, nothing, more, RowLines, JudgesRow, row-stands, no-row, rows, rows-broken, TakesRows, takes-rows, breaks-rows, CellsFit, grid, grid-broken, TakesGrid, takes-grid, breaks-grid}
+use Rattle.roomrows.specs.Rows.{isCell, cellOf, cellsOf, RowOf, AllRows, nothing, more, RowLines, JudgesRow, row-stands, no-row, rows, rows-broken, TakesRows, takes-rows, breaks-rows, CellsFit, grid, grid-broken, TakesGrid, takes-grid, breaks-grid}
 use Rattle.roomlines.proofs.Spelled.{part-length}
 use Rattle.roomlines.proofs.Counting.{one-line}
 use Rattle.roomlines.proofs.Parts.{sets-append}
 use Rattle.roomlines.proofs.Stored.{lines-more}
 use Rattle.roomlines.proofs.Sections.{lines-append, breaks-short, count-broken, counted-broken, count-line, count-most, count-least}
-use Rattle.roomlines.proofs.Bits.{dot-cell, line-feed-no-cell, byte-of}
+use Rattle.roomrows.proofs.Bits.{dot-cell, line-feed-no-cell, byte-of}
 
 -- ---- rows in a list
 pub rows-append : {width : ℕ} {ls ms : List (List ℕ)} → AllRows width ls → AllRows width ms → AllRows width (ls ++ ms)

@@ -1,12 +1,13 @@
--- `roomlines::grid::grid`: the count, and then the rows.
+-- `roomrows::grid::grid`: the count, and then the rows.
 use native.Mathlib.Omega.{arith}
 use borrow.Author.Needs.{needs}
 use Rattle.roomlines.specs.Forms.{ReadsCount, count}
-use Rattle.roomlines.specs.Answers.{countFound, rowsFound, gridFound}
+use Rattle.roomlines.specs.Answers.{countFound}
+use Rattle.roomrows.specs.Answers.{rowsFound, gridFound}
 use Rattle.roomlines.proofs.Sections.{count-least}
-use Rattle.roomlines.proofs.Lined.{grid-none, grid-fits, grid-taken, grid-breaks, grid-short}
-use Rattle.roomlines.proofs.grid.grid.Statement.{statement}
-use Rattle.roomlines.proofs.grid.grid.Tie as tie
+use Rattle.roomrows.proofs.Lined.{grid-none, grid-fits, grid-taken, grid-breaks, grid-short}
+use Rattle.roomrows.proofs.grid.grid.Statement.{statement}
+use Rattle.roomrows.proofs.grid.grid.Tie as tie
 
 count-requires : tie.Need-count-requires
 count-requires c κs = search needs

@@ -1,8 +1,8 @@
--- `roomlines::grid::is_cell`: `.` or `#`.
+-- `roomrows::grid::is_cell`: `.` or `#`.
 use native.Mathlib.Omega.{arith}
-use Rattle.roomlines.proofs.Bits.{dot-is-cell, other-is-cell}
-use Rattle.roomlines.proofs.grid.is_cell.Statement.{statement}
-use Rattle.roomlines.proofs.grid.is_cell.Tie as tie
+use Rattle.roomrows.proofs.Bits.{dot-is-cell, other-is-cell}
+use Rattle.roomrows.proofs.grid.is_cell.Statement.{statement}
+use Rattle.roomrows.proofs.grid.is_cell.Tie as tie
 
 returns : tie.Need-returns
 returns c = dot-is-cell (c .before .args .byte) (omega (arith, c .if1 .taken))

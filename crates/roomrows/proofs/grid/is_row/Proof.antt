@@ -1,12 +1,12 @@
--- `roomlines::grid::is_row`: LF after the width, and cells before it.
+-- `roomrows::grid::is_row`: LF after the width, and cells before it.
 use mathlib.Core.Path.{_≡_, sym, _∙_}
 use Prim.Native.Nat.{_-_, _≤_}
 use native.Mathlib.Omega.{arith}
 use borrow.Author.Needs.{needs}
 use borrow.Author.Tests.{not-true, not-false}
-use Rattle.roomlines.proofs.Bits.{CellsFrom, cells-none, cells-more, too-short, other-byte, no-cell, cells-row}
-use Rattle.roomlines.proofs.grid.is_row.Statement.{statement}
-use Rattle.roomlines.proofs.grid.is_row.Tie as tie
+use Rattle.roomrows.proofs.Bits.{CellsFrom, cells-none, cells-more, too-short, other-byte, no-cell, cells-row}
+use Rattle.roomrows.proofs.grid.is_row.Statement.{statement}
+use Rattle.roomrows.proofs.grid.is_row.Tie as tie
 
 abbrev Inv-loop : tie.InvT-loop
 Inv-loop text at width k₀ k = CellsFrom text at k × (k ≤ width)

@@ -1,8 +1,8 @@
--- `roomlines::grid::cell`: 1 for `.`, else 0.
+-- `roomrows::grid::cell`: 1 for `.`, else 0.
 use native.Mathlib.Omega.{arith}
-use Rattle.roomlines.proofs.Bits.{cell-dot, cell-other}
-use Rattle.roomlines.proofs.grid.cell.Statement.{statement}
-use Rattle.roomlines.proofs.grid.cell.Tie as tie
+use Rattle.roomrows.proofs.Bits.{cell-dot, cell-other}
+use Rattle.roomrows.proofs.grid.cell.Statement.{statement}
+use Rattle.roomrows.proofs.grid.cell.Tie as tie
 
 returns : tie.Need-returns
 returns c = cell-dot (c .before .args .byte) (omega (arith, c .if1 .taken))

@@ -1,6 +1,6 @@
 // The rows of a map: `.` is walkable and `#` is not, all rows have one length.
-use crate::counts;
-use crate::counts::FoundCount;
+use roomlines::counts;
+use roomlines::counts::FoundCount;
 use textlines;
 use textlines::FoundLine;
 ghost use mathlib.Core.Path.{_≡_};
@@ -9,8 +9,8 @@ ghost use Prim.Native.Nat.{_+_, _≤_, _<_};
 ghost use lib.ListN.{length, take, drop};
 ghost use lib.Seq.{sets};
 ghost use Rattle.textlines.specs.Lines.{LineAt};
-ghost use Rattle.roomlines.specs.Rows.{isCell, cellOf, JudgesRow, TakesRows, CellsFit, TakesGrid};
-ghost use Rattle.roomlines.specs.Answers.{rowsFound, gridFound};
+ghost use Rattle.roomrows.specs.Rows.{isCell, cellOf, JudgesRow, TakesRows, CellsFit, TakesGrid};
+ghost use Rattle.roomrows.specs.Answers.{rowsFound, gridFound};
 
 // The width of rows and the place after them, or how many of them stand before the line that breaks their form.
 pub enum FoundRows {
