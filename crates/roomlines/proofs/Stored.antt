@@ -19,7 +19,7 @@ pub fit-append : {fs gs : List Four} → AllFit fs → AllFit gs → AllFit (fs 
 fit-append nothing b = b
 fit-append (more f a) b = more f (fit-append a b)
 
-numbers-append : (fs gs : List Four) → numbersOf (fs ++ gs) ≡ numbersOf fs ++ numbersOf gs
+pub numbers-append : (fs gs : List Four) → numbersOf (fs ++ gs) ≡ numbersOf fs ++ numbersOf gs
 unfolding numbersOf
 numbers-append [] gs = refl
 numbers-append (f ∷ fs) gs = ap (λ (l : List ℤ). f .left ∷ f .top ∷ f .right ∷ f .bottom ∷ l) (numbers-append fs gs)
@@ -60,7 +60,7 @@ line-is-four (l ∷ first) content others nothing e = let z : _≡_ {A = ℕ} 0 
 line-is-four (l ∷ first) content others (more {f = g} {fs = gs} w a) e = let t : first ++ (content ∷ others) ≡ map fourLine gs = cc in line-is-four first content others a t
 
 -- ---- how long such a line is
-four-long : (f : Four) → 3 ≤ length (fourLine f)
+pub four-long : (f : Four) → 3 ≤ length (fourLine f)
 unfolding fourLine
 four-long f = simp length-append (omega arith)
 
