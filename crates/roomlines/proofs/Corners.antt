@@ -12,7 +12,7 @@ use mir.Syntax.{w32}
 use mir.Val.{SFits}
 use Rattle.decimal.specs.Numbers.{isDigit, decimalOf, number, nothing, FollowedAt, ReadsFollowed, accepts-followed}
 use Rattle.roomlines.specs.Fours.{Four, fourLine, Signed32, four, no-four, ReadsFour, accepts-four, refuses-four}
-use Rattle.roomlines.proofs.Spelled.{reads-back, none-stands}
+use Rattle.roomlines.proofs.Spelled.{reads-back, none-stands, number-split}
 
 -- the text of such a line, number by number
 four-text : (f : Four) (r : List ℕ) → fourLine f ++ r ≡ decimalOf (f .left) ++ (32 ∷ (decimalOf (f .top) ++ (32 ∷ (decimalOf (f .right) ++ (32 ∷ (decimalOf (f .bottom) ++ r))))))
@@ -88,3 +88,17 @@ four-stored l i a b d e =
     let two : i + 2 ≡ suc (suc i) = omega arith in
     let three : i + 3 ≡ suc (suc (suc i)) = omega arith in
     rw (one, two, three)
+
+-- ---- one line for each rectangle
+pub four-one : (f g : Four) → fourLine f ≡ fourLine g → f ≡ g
+unfolding isDigit
+four-one f g e =
+    let whole = sym (four-text f (10 ∷ [])) ∙ ap (λ (l : List ℕ). l ++ (10 ∷ [])) e ∙ four-text g (10 ∷ []) in
+    let one = number-split (f .left) (g .left) 32 _ _ refl whole in
+    let two = number-split (f .top) (g .top) 32 _ _ refl (one .1) in
+    let three = number-split (f .right) (g .right) 32 _ _ refl (two .1) in
+    let four = number-split (f .bottom) (g .bottom) 10 _ _ refl (three .1) in
+    same (one .0) (two .0) (three .0) (four .0)
+  where
+    same : {a b d e w x y z : ℤ} → a ≡ w → b ≡ x → d ≡ y → e ≡ z → _≡_ {A = Four} (record { left = a; top = b; right = d; bottom = e }) (record { left = w; top = x; right = y; bottom = z })
+    same p q r s = rw (p, q, r, s)

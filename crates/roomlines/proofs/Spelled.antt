@@ -1,5 +1,5 @@
 -- A number and the byte after it, as a text that goes on in any way.
-use mathlib.Core.Path.{_≡_, sym, ap, _∙_}
+use mathlib.Core.Path.{_≡_, refl, sym, ap, _∙_}
 use mathlib.Core.Bool.{false}
 use mathlib.Core.List.{List, _∷_, _++_}
 use Prim.Native.Nat.{ℕ, _+_, _-_, _≤_, _<_}
@@ -42,3 +42,10 @@ module _ (text : List ℕ) (at byte : ℕ) (x : ℤ) (r : List ℕ) (e : drop at
   -- where no number was found, none stands
   pub none-stands : {lowest highest : ℤ} → ReadsFollowed byte lowest highest text at nothing → Within lowest highest x → ⊥
   none-stands (refuses-followed none) w = none x _ w goes-on
+
+-- two texts of a number and a byte that is no digit are equal in their parts
+pub number-split : (a b : ℤ) (byte : ℕ) (x y : List ℕ) → isDigit byte ≡ false → decimalOf a ++ (byte ∷ x) ≡ decimalOf b ++ (byte ∷ y) → (a ≡ b) × (x ≡ y)
+number-split a b byte x y d e =
+    let text = decimalOf b ++ (byte ∷ y) in
+    let w = reads-back text 0 byte a x (sym e) d (goes-on text 0 byte b y refl) in
+    (w .0, sym (w .1) ∙ goes-on-rest text 0 byte b y refl)

@@ -4,3 +4,4 @@ pub mod Split
 pub mod Rooms
 pub mod Taken
 pub mod Read
+pub mod One

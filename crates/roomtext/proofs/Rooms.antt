@@ -83,7 +83,7 @@ one-four (more {f = f} w nothing) h = record { f = f; fits = w; is = refl }
 one-four (more w (more v a)) h = absurd (omega arith)
 
 -- ---- a room's lines are in the form, and lines in the form are a room's
-rows-form : {room : Room} → Formed room → RowsForm (counted (room .rows))
+pub rows-form : {room : Room} → Formed room → RowsForm (counted (room .rows))
 unfolding counted
 rows-form {room} f = record {
   number = length (room .rows);
