@@ -125,8 +125,8 @@ module _ {lowest highest : ℕ} {text : List ℕ} {at : ℕ} where
     pub section-taken : {place past : ℕ} {before after : List ℤ} → TakesFours text first n place before after (up-to past) → TakesSection lowest highest text at place before after (section n past)
     section-taken (takes-fours t) = takes-section (record { fours = t .fours; fit = t .fit; number = t .number; low = count-least; high = count-most; lines = lines-append count-line (t .lines); stored = t .stored })
 
-    pub section-breaks : {place passed : ℕ} {before after : List ℤ} → TakesFours text first n place before after (broken passed) → TakesSection lowest highest text at place before after (section-broken (passed + 1))
-    section-breaks (breaks-fours b) = breaks-section (counted-broken n count-least count-most (count-line .stands ∙ one-line (decimalOf (pos n)) (drop first text)) b)
+    pub section-breaks : {place passed line : ℕ} {before after : List ℤ} → TakesFours text first n place before after (broken passed) → line ≡ passed + 1 → TakesSection lowest highest text at place before after (section-broken line)
+    section-breaks (breaks-fours b) e = rw e (breaks-section (counted-broken n count-least count-most (count-line .stands ∙ one-line (decimalOf (pos n)) (drop first text)) b))
 
     pub broken-short : {place passed : ℕ} {before after : List ℤ} → TakesFours text first n place before after (broken passed) → passed ≤ length text
     broken-short (breaks-fours b) = omega (arith, breaks-short b, length-drop first text)

@@ -137,8 +137,12 @@ module _ {text : List ℕ} {at n place : ℕ} {before now : List ℤ} {from to p
     unfinished = λ w. omega (arith, fours-sized w, length-map (r .fours) fourLine, r .number);
   }
 
-  pub read-turn : {past : ℕ} {after : List ℤ} → TakesFour text from to now after (line-up-to past) → passed < n → FoursRead text at n place before after past (to + 4) (passed + 1)
-  read-turn (takes-four a e) h = read-more a e h
+  -- the numbers of a line more, stored where the next ones go
+  pub read-turn : {past next count : ℕ} {after : List ℤ} → TakesFour text from to now after (line-up-to past) → passed < n → next ≡ to + 4 → count ≡ passed + 1 → FoursRead text at n place before after past next count
+  read-turn (takes-four a e) h p q = rw (p, q) (read-more a e h)
+
+  pub turn-inside : {past : ℕ} {after : List ℤ} → TakesFour text from to now after (line-up-to past) → to + 4 ≤ length text
+  turn-inside (takes-four a e) = omega (arith, r .behind, four-past a, a .inside)
 
   pub read-length : length now ≡ length before
   read-length = ap length (r .stored) ∙ length-sets before place (numbersOf (r .fours))

@@ -11,7 +11,7 @@ use Rattle.decimal.specs.Numbers.{decimalOf}
 use Rattle.decimal.proofs.Digits.{clash}
 use Rattle.textlines.specs.Lines.{textOf, LineAt, ends, unended, FindsLine, line, none}
 use Rattle.textlines.proofs.Lines.{line-one}
-use Rattle.roomlines.specs.Forms.{BreaksIn, LinesAt, count, no-count, ReadsCount, refuses-count}
+use Rattle.roomlines.specs.Forms.{BreaksIn, LinesAt, CountFound, count, no-count, ReadsCount, refuses-count}
 use Rattle.roomrows.specs.Rows.{isCell, cellOf, cellsOf, RowOf, AllRows, nothing, more, RowLines, JudgesRow, row-stands, no-row, rows, rows-broken, TakesRows, takes-rows, breaks-rows, CellsFit, grid, grid-broken, TakesGrid, takes-grid, breaks-grid}
 use Rattle.roomlines.proofs.Spelled.{part-length}
 use Rattle.roomlines.proofs.Counting.{one-line}
@@ -117,8 +117,8 @@ module _ {text : List ℕ} {at n width : ℕ} {before now : List ℕ} {from to p
   pub rows-room : CellsFit text at before → JudgesRow text from width true → (from + width < length text) × (to + width ≤ length now)
   rows-room b (row-stands w e i) = (i, omega (arith, rows-length, b .long, r .behind))
 
-  pub rows-turn : {after : List ℕ} → JudgesRow text from width true → after ≡ sets now to (map cellOf (take width (drop from text))) → passed < n → RowsRead text at n width before after (from + width + 1) (to + width) (passed + 1)
-  rows-turn {after} (row-stands w e i) s h = record {
+  rows-more : {after : List ℕ} → JudgesRow text from width true → after ≡ sets now to (map cellOf (take width (drop from text))) → passed < n → RowsRead text at n width before after (from + width + 1) (to + width) (passed + 1)
+  rows-more {after} (row-stands w e i) s h = record {
     lines = r .lines ++ (row ∷ []);
     all = rows-append (r .all) (more w nothing);
     number = length-append (r .lines) (row ∷ []) ∙ omega (arith, r .number);
@@ -137,6 +137,9 @@ module _ {text : List ℕ} {at n width : ℕ} {before now : List ℕ} {from to p
 
       cells : cellsOf (r .lines ++ (row ∷ [])) ≡ cellsOf (r .lines) ++ map cellOf row
       cells = cells-append (r .lines) (row ∷ []) ∙ ap (λ (t : List ℕ). cellsOf (r .lines) ++ t) (cells-one row)
+
+  pub rows-turn : {after : List ℕ} {start next count : ℕ} → JudgesRow text from width true → after ≡ sets now to (map cellOf (take width (drop from text))) → passed < n → start ≡ from + width + 1 → next ≡ to + width → count ≡ passed + 1 → RowsRead text at n width before after start next count
+  rows-turn w s h p q k = rw (p, q, k) (rows-more w s h)
 
   pub rows-taken : 0 < width → n ≤ passed → TakesRows text at n before now (rows width from)
   rows-taken some h = takes-rows (record { lines = r .lines; some = some; all = r .all; number = omega (arith, r .number, r .most); stand = r .stand; stored = r .stored })
@@ -173,6 +176,10 @@ module _ {text : List ℕ} {at n width : ℕ} {before now : List ℕ} {from to p
 rows-sized : {n : ℕ} {ls : List (List ℕ)} → RowLines n ls → length ls ≡ n
 rows-sized r = r .number
 
+-- a count in the limits that the rows have
+pub at-least-one : {lowest highest : ℕ} {text : List ℕ} {at : ℕ} {found : CountFound} → ReadsCount lowest highest text at found → lowest ≡ 1 → highest ≡ 2147483647 → ReadsCount 1 2147483647 text at found
+at-least-one r p q = rw (p, q) at r
+
 module _ {text : List ℕ} {at : ℕ} where
   pub grid-none : {before after : List ℕ} → ReadsCount 1 2147483647 text at no-count → TakesGrid text at before after (grid-broken 0)
   grid-none (refuses-count absent) = breaks-grid (count-broken (replicate 1 (replicate 1 46)) (omega arith) (some-rows 1) absent)
@@ -184,8 +191,8 @@ module _ {text : List ℕ} {at : ℕ} where
     pub grid-taken : {width past : ℕ} {before after : List ℕ} → TakesRows text first n before after (rows width past) → TakesGrid text at before after (grid width n past)
     grid-taken (takes-rows t) = takes-grid (record { lines = t .lines; some = t .some; all = t .all; number = t .number; low = count-least r; high = count-most r; stand = lines-append (count-line r) (t .stand); stored = t .stored })
 
-    pub grid-breaks : {passed : ℕ} {before after : List ℕ} → TakesRows text first n before after (rows-broken passed) → TakesGrid text at before after (grid-broken (passed + 1))
-    grid-breaks (breaks-rows b) = breaks-grid (counted-broken n (count-least r) (count-most r) (count-line r .stands ∙ one-line (decimalOf (pos n)) (drop first text)) b)
+    pub grid-breaks : {passed line : ℕ} {before after : List ℕ} → TakesRows text first n before after (rows-broken passed) → line ≡ passed + 1 → TakesGrid text at before after (grid-broken line)
+    grid-breaks (breaks-rows b) e = rw e (breaks-grid (counted-broken n (count-least r) (count-most r) (count-line r .stands ∙ one-line (decimalOf (pos n)) (drop first text)) b))
 
     pub grid-short : {passed : ℕ} {before after : List ℕ} → TakesRows text first n before after (rows-broken passed) → passed ≤ length text
     grid-short (breaks-rows b) = omega (arith, breaks-short b, length-drop first text)

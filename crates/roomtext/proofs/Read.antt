@@ -16,8 +16,8 @@ use Rattle.roomtext.proofs.Joined.{first-breaks, second-breaks}
 use Rattle.roomtext.proofs.Rooms.{rows-ending, room-form, room-breaks, bytes-after}
 use Rattle.roomtext.proofs.Taken.{breaks-number, some-tail}
 
-pub room-none : {text cells-before cells cells-after : List ℕ} {numbers-before numbers-after : List ℤ} {passed : ℕ} → TakesGrid text 0 cells-before cells (grid-broken passed) → ReadsRoom text cells-before cells-after numbers-before numbers-after (broken-at (passed + 1))
-room-none (breaks-grid b) = breaks-at (room-breaks (first-breaks rows-ending b _ some-tail))
+pub room-none : {text cells-before cells cells-after : List ℕ} {numbers-before numbers-after : List ℤ} {passed line : ℕ} → TakesGrid text 0 cells-before cells (grid-broken passed) → line ≡ passed + 1 → ReadsRoom text cells-before cells-after numbers-before numbers-after (broken-at line)
+room-none (breaks-grid b) e = rw e (breaks-at (room-breaks (first-breaks rows-ending b _ some-tail)))
 
 pub grid-taken : {text cells-before cells-after : List ℕ} {width height past : ℕ} → TakesGrid text 0 cells-before cells-after (grid width height past) → GridTaken text 0 cells-before cells-after width height past
 grid-taken (takes-grid g) = g
@@ -67,10 +67,11 @@ module _ {text cells-before cells-after : List ℕ} {width height from : ℕ} (g
   unfolding counted
   grid-size = omega (arith, g .number)
 
-  pub room-stops : {passed : ℕ} {before numbers after : List ℤ} → TakesTail text from before numbers (tail-broken passed) → ReadsRoom text cells-before cells-after before after (broken-at (height + 1 + passed + 1))
-  room-stops {passed} (breaks-tail b) =
-      let e : length (counted (g .lines)) + passed ≡ height + 1 + passed = omega (arith, grid-size) in
-      breaks-at (room-breaks (breaks-number e (second-breaks text rows-ending grid-form (grid-lines .stands) b)))
+  pub room-stops : {passed line : ℕ} {before numbers after : List ℤ} → TakesTail text from before numbers (tail-broken passed) → line ≡ height + passed + 2 → ReadsRoom text cells-before cells-after before after (broken-at line)
+  room-stops {passed} {line} (breaks-tail b) q =
+      let e : length (counted (g .lines)) + passed ≡ height + passed + 1 = omega (arith, grid-size) in
+      let f : line ≡ height + passed + 1 + 1 = omega arith in
+      rw f (breaks-at (room-breaks (breaks-number e (second-breaks text rows-ending grid-form (grid-lines .stands) b))))
 
   -- ---- and the rectangles
   module _ {m n past : ℕ} {before after : List ℤ} (t : TailTaken text from before after m n past) where

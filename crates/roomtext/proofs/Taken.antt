@@ -9,7 +9,7 @@ use lib.Seq.{sets, length-sets}
 use Rattle.decimal.specs.Numbers.{decimalOf}
 use Rattle.textlines.specs.Lines.{textOf}
 use Rattle.roomlines.specs.Fours.{Four, fourLine, numbersOf, BufferFits}
-use Rattle.roomlines.specs.Forms.{BreaksIn, LinesAt, Counted, FourLines, section, section-broken, SectionTaken, TakesSection, takes-section, breaks-section}
+use Rattle.roomlines.specs.Forms.{BreaksIn, LinesAt, Counted, FourLines, SectionFound, section, section-broken, SectionTaken, TakesSection, takes-section, breaks-section}
 use Rattle.roomlines.proofs.Counting.{line-on}
 use Rattle.roomlines.proofs.Parts.{sets-append}
 use Rattle.roomlines.proofs.Stored.{zeros, zeros-fit, numbers-append, numbers-length, four-long}
@@ -51,8 +51,8 @@ module _ {lowest highest : ℕ} {text : List ℕ} {at place : ℕ} {before after
   section-size = omega (arith, length-map (s .fours) fourLine, s .number)
 
   -- the buffer is not filled further than the text is read
-  pub fits-after : BufferFits text at before place → BufferFits text past after (place + 4 * n)
-  fits-after b = record {
+  pub fits-after : {to : ℕ} → BufferFits text at before place → to ≡ place + 4 * n → BufferFits text past after to
+  fits-after {to} b e = record {
     inside = s .lines .inside;
     behind = omega (arith, b .behind, s .number, lines-past (s .lines) (b .inside), line-long, fours-long (s .fours));
     long = omega (arith, b .long, ap length (s .stored), length-sets before place (numbersOf (s .fours)));
@@ -69,6 +69,10 @@ section-breaks (breaks-section b) = b
 
 pub section-short : {lowest highest : ℕ} {text : List ℕ} {at place : ℕ} {before after : List ℤ} {passed : ℕ} → TakesSection lowest highest text at place before after (section-broken passed) → passed ≤ length text
 section-short {text = text} {at = at} (breaks-section b) = omega (arith, breaks-short b, length-drop at text)
+
+-- a section in the limits that are asked of it
+pub in-limits : {lowest highest low high : ℕ} {text : List ℕ} {at place : ℕ} {before after : List ℤ} {found : SectionFound} → TakesSection lowest highest text at place before after found → lowest ≡ low → highest ≡ high → TakesSection low high text at place before after found
+in-limits t p q = rw (p, q) at t
 
 -- ---- some lines in the forms
 some-rectangles : RectanglesForm (counted (map fourLine (replicate 0 zeros)))
@@ -88,9 +92,9 @@ pub end-none : {text : List ℕ} {at place passed : ℕ} {before after last : Li
 end-none t = breaks-end (first-breaks rectangles-ending (section-breaks t) _ some-targets)
 
 module _ {text : List ℕ} {at place : ℕ} {before middle : List ℤ} {n from : ℕ} (s : SectionTaken 0 2147483647 text at place before middle n from) where
-  pub end-breaks : {to passed : ℕ} {after last : List ℤ} → TakesSection 1 1 text from to middle after (section-broken passed) → TakesEnd text at place before last (end-broken (n + 1 + passed))
-  end-breaks {passed = passed} t =
-      let e : length (counted (map fourLine (s .fours))) + passed ≡ n + 1 + passed = omega (arith, section-size s) in
+  pub end-breaks : {to passed line : ℕ} {after last : List ℤ} → TakesSection 1 1 text from to middle after (section-broken passed) → line ≡ n + 1 + passed → TakesEnd text at place before last (end-broken line)
+  end-breaks {passed = passed} {line = line} t q =
+      let e : length (counted (map fourLine (s .fours))) + passed ≡ line = omega (arith, section-size s) in
       breaks-end (breaks-number e (second-breaks (drop at text) rectangles-ending (section-form s) (section-lines s .stands) (section-breaks t)))
 
   end-made : {to m past : ℕ} {after : List ℤ} (t : SectionTaken 1 1 text from to middle after m past) → OneFour (t .fours) → to ≡ place + 4 * n → EndTaken text at place before after n past
@@ -115,9 +119,9 @@ pub tail-none : {text : List ℕ} {at place passed : ℕ} {before after last : L
 tail-none t = breaks-tail (first-breaks rectangles-ending (section-breaks t) _ some-end)
 
 module _ {text : List ℕ} {at : ℕ} {before middle : List ℤ} {m from : ℕ} (s : SectionTaken 0 2147483647 text at 0 before middle m from) where
-  pub tail-breaks : {to passed : ℕ} {after last : List ℤ} → TakesEnd text from to middle after (end-broken passed) → TakesTail text at before last (tail-broken (m + 1 + passed))
-  tail-breaks {passed = passed} (breaks-end b) =
-      let e : length (counted (map fourLine (s .fours))) + passed ≡ m + 1 + passed = omega (arith, section-size s) in
+  pub tail-breaks : {to passed line : ℕ} {after last : List ℤ} → TakesEnd text from to middle after (end-broken passed) → line ≡ m + 1 + passed → TakesTail text at before last (tail-broken line)
+  tail-breaks {passed = passed} {line = line} (breaks-end b) q =
+      let e : length (counted (map fourLine (s .fours))) + passed ≡ line = omega (arith, section-size s) in
       breaks-tail (breaks-number e (second-breaks (drop at text) rectangles-ending (section-form s) (section-lines s .stands) b))
 
   pub tail-taken : {to n past : ℕ} {after : List ℤ} → TakesEnd text from to middle after (end n past) → to ≡ 4 * m → TakesTail text at before after (tail m n past)

@@ -95,7 +95,7 @@ pub fn room(text: &[u8], cells: &mut [u8], numbers: &mut [i32]) -> Reading
             match rest {
                 FoundTail::Broken(passed) => {
                     return Reading::Broken {
-                        line: height + 1 + passed + 1,
+                        line: height + passed + 2,
                     };
                 }
                 FoundTail::Tail(blockers, resources, past) => {

@@ -1,10 +1,11 @@
 -- `roomtext::end`: the resources, and then the targets, whose count is 1.
+use mathlib.Core.Path.{refl}
 use native.Mathlib.Omega.{arith}
 use borrow.Author.Needs.{needs}
 use Rattle.roomlines.specs.Forms.{SectionTaken}
 use Rattle.roomlines.specs.Answers.{sectionFound}
 use Rattle.roomtext.specs.Answers.{endFound}
-use Rattle.roomtext.proofs.Taken.{section-taken, section-short, fits-after, end-none, end-breaks, end-taken}
+use Rattle.roomtext.proofs.Taken.{in-limits, section-taken, section-short, fits-after, end-none, end-breaks, end-taken}
 use Rattle.roomtext.proofs.end.Statement.{statement}
 use Rattle.roomtext.proofs.end.Tie as tie
 
@@ -19,12 +20,12 @@ same-length c = search needs
 
 returns : tie.Need-returns
 unfolding sectionFound endFound
-returns c = end-none (rw (c .before .taken .given .1) at (c .before .before .before .before .section .ensures))
+returns c = end-none (in-limits (rw (c .before .taken .given .1) at (c .before .before .before .before .section .ensures)) (omega arith) (omega arith))
 
 -- the resources that were read
 first : (c : tie.After-known-told2) → SectionTaken 0 2147483647 (c .before .before .before .before .before .before .before .args .text .now) (c .before .before .before .before .before .before .before .args .at) (c .before .before .before .before .before .before .before .args .place) (c .before .before .before .before .before .before .before .args .numbers .now) (c .before .before .before .before .section .last .1 .1 .1 .1 .0) (c .before .taken2 .given .0 .0) (c .before .taken2 .given .0 .1 .0)
 unfolding sectionFound
-first c = section-taken (rw (c .before .taken2 .given .1) at (c .before .before .before .before .section .ensures))
+first c = section-taken (in-limits (rw (c .before .taken2 .given .1) at (c .before .before .before .before .section .ensures)) (omega arith) (omega arith))
 
 enum-known-taken-2 : tie.Need-enum-known-taken-2
 enum-known-taken-2 c = search needs
@@ -33,10 +34,10 @@ mul-section : tie.Need-mul-section
 mul-section c = let i = first (c .before) .high in search needs
 
 add-section : tie.Need-add-section
-add-section c = let f = fits-after (first (c .before)) (c .before .before .before .before .before .before .before .before .pre) in let i = f .behind in let j = f .inside in search needs
+add-section c = let f = fits-after (first (c .before)) (c .before .before .before .before .before .before .before .before .pre) refl in let i = f .behind in let j = f .inside in search needs
 
 section-requires-2 : tie.Need-section-requires-2
-section-requires-2 c κs = (fits-after (first (c .before)) (c .before .before .before .before .before .before .before .before .pre), omega arith, omega arith)
+section-requires-2 c κs = (fits-after (first (c .before)) (c .before .before .before .before .before .before .before .before .pre) (omega arith), omega arith, omega arith)
 
 enum-known-last : tie.Need-enum-known-last
 enum-known-last c = search needs
@@ -53,7 +54,7 @@ same-length-2 c = search needs
 
 returns-2 : tie.Need-returns-2
 unfolding sectionFound endFound
-returns-2 c = end-breaks (first (c .before .before .before .before .before .before)) (rw (c .before .last .given .1) at (c .before .before .before .before .section2 .ensures))
+returns-2 c = end-breaks (first (c .before .before .before .before .before .before)) (in-limits (rw (c .before .last .given .1) at (c .before .before .before .before .section2 .ensures)) (omega arith) (omega arith)) (omega arith)
 
 enum-known-last-2 : tie.Need-enum-known-last-2
 enum-known-last-2 c = search needs
@@ -63,7 +64,7 @@ same-length-3 c = search needs
 
 returns-3 : tie.Need-returns-3
 unfolding sectionFound endFound
-returns-3 c = end-taken (first (c .before .before .before .before .before .before)) (rw (c .before .last2 .given .1) at (c .before .before .before .before .section2 .ensures)) (omega arith)
+returns-3 c = end-taken (first (c .before .before .before .before .before .before)) (in-limits (rw (c .before .last2 .given .1) at (c .before .before .before .before .section2 .ensures)) (omega arith) (omega arith)) (omega arith)
 
 pub end-spec : {M : Type 1} → statement M
 end-spec =

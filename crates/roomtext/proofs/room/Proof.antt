@@ -24,7 +24,7 @@ same-length c = search needs
 
 returns : tie.Need-returns
 unfolding gridFound roomFound
-returns c = room-none (rw (c .before .map .given .1) at (c .before .before .before .before .before .grid .ensures))
+returns c = room-none (rw (c .before .map .given .1) at (c .before .before .before .before .before .grid .ensures)) (omega arith)
 
 -- the rows that were read
 map-read : (c : tie.After-known-told2) → GridTaken (c .before .before .before .before .before .before .before .before .before .args .text .now) 0 (c .before .before .before .before .before .before .before .before .before .args .cells .now) (c .before .before .before .before .before .grid .last .1 .1 .0) (c .before .map2 .given .0 .0) (c .before .map2 .given .0 .1 .0) (c .before .map2 .given .0 .1 .1 .0)
@@ -48,10 +48,6 @@ add-t20 : tie.Need-add-t20
 unfolding tailFound
 add-t20 c = let i = map-read (c .before .before .before .before .before .before) .high in let j = tail-short (rw (c .before .rest .given .1) at (c .before .before .before .before .tail .ensures)) in let k = c .before .before .before .before .before .before .before .before .before .before .before .before .before .before .before .pre .short in omega (arith, i, j, k)
 
-add-t21 : tie.Need-add-t21
-unfolding tailFound
-add-t21 c = let i = map-read (c .before .before .before .before .before .before) .high in let j = tail-short (rw (c .before .rest .given .1) at (c .before .before .before .before .tail .ensures)) in let k = c .before .before .before .before .before .before .before .before .before .before .before .before .before .before .before .pre .short in omega (arith, i, j, k)
-
 same-length-2 : tie.Need-same-length-2
 same-length-2 c = search needs
 
@@ -60,7 +56,7 @@ same-length-3 c = search needs
 
 returns-2 : tie.Need-returns-2
 unfolding tailFound roomFound
-returns-2 c = room-stops (map-read (c .before .before .before .before .before .before)) (rw (c .before .rest .given .1) at (c .before .before .before .before .tail .ensures))
+returns-2 c = room-stops (map-read (c .before .before .before .before .before .before)) (rw (c .before .rest .given .1) at (c .before .before .before .before .tail .ensures)) (omega arith)
 
 -- the rectangles that were read
 rest-read : (c : tie.After-known-told4) → TailTaken (c .before .before .before .before .before .before .before .before .before .before .before .before .before .before .before .args .text .now) (c .before .before .before .before .before .before .before .map2 .given .0 .1 .1 .0) (c .before .before .before .before .before .before .before .before .before .before .before .before .before .before .before .args .numbers .now) (c .before .before .before .before .tail .last .1 .1 .0) (c .before .rest2 .given .0 .0) (c .before .rest2 .given .0 .1 .0) (c .before .rest2 .given .0 .1 .1 .0)
@@ -70,14 +66,14 @@ rest-read c = tail-taken-of (rw (c .before .rest2 .given .1) at (c .before .befo
 enum-known-rest-2 : tie.Need-enum-known-rest-2
 enum-known-rest-2 c = search needs
 
+add-t23 : tie.Need-add-t23
+add-t23 c = let i = map-read (c .before .before .before .before .before .before .before) .high in let j = rest-read (c .before) .blockers-high in let k = rest-read (c .before) .resources-high in omega (arith, i, j, k)
+
 add-t24 : tie.Need-add-t24
 add-t24 c = let i = map-read (c .before .before .before .before .before .before .before) .high in let j = rest-read (c .before) .blockers-high in let k = rest-read (c .before) .resources-high in omega (arith, i, j, k)
 
 add-t25 : tie.Need-add-t25
 add-t25 c = let i = map-read (c .before .before .before .before .before .before .before) .high in let j = rest-read (c .before) .blockers-high in let k = rest-read (c .before) .resources-high in omega (arith, i, j, k)
-
-add-t26 : tie.Need-add-t26
-add-t26 c = let i = map-read (c .before .before .before .before .before .before .before) .high in let j = rest-read (c .before) .blockers-high in let k = rest-read (c .before) .resources-high in omega (arith, i, j, k)
 
 same-length-4 : tie.Need-same-length-4
 same-length-4 c = search needs
@@ -87,7 +83,7 @@ same-length-5 c = search needs
 
 returns-3 : tie.Need-returns-3
 unfolding roomFound
-returns-3 c = room-goes-on (map-read (c .before .before .before .before .before .before .before)) (rest-read (c .before)) (c .if1 .taken) (omega arith)
+returns-3 c = room-goes-on (map-read (c .before .before .before .before .before .before .before)) (rest-read (c .before)) (omega (arith, c .if1 .taken)) (omega arith)
 
 same-length-6 : tie.Need-same-length-6
 same-length-6 c = search needs
@@ -97,7 +93,7 @@ same-length-7 c = search needs
 
 returns-4 : tie.Need-returns-4
 unfolding roomFound
-returns-4 c = room-read (map-read (c .before .before .before .before .before .before .before)) (rest-read (c .before)) (c .if1 .left)
+returns-4 c = room-read (map-read (c .before .before .before .before .before .before .before)) (rest-read (c .before)) (omega (arith, c .if1 .left))
 
 pub room-spec : {M : Type 1} → statement M
 room-spec =
@@ -113,14 +109,13 @@ room-spec =
     enum-known-rest
     add-t19
     add-t20
-    add-t21
     same-length-2
     same-length-3
     returns-2
     enum-known-rest-2
+    add-t23
     add-t24
     add-t25
-    add-t26
     same-length-4
     same-length-5
     returns-3

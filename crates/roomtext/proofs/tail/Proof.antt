@@ -1,12 +1,10 @@
 -- `roomtext::tail`: the blockers, and then the resources and the targets.
-use mathlib.Core.Path.{_≡_}
-use Prim.Native.Nat.{_+_, _*_}
 use native.Mathlib.Omega.{arith}
 use borrow.Author.Needs.{needs}
 use Rattle.roomlines.specs.Forms.{SectionTaken}
 use Rattle.roomlines.specs.Answers.{sectionFound}
 use Rattle.roomtext.specs.Answers.{endFound, tailFound}
-use Rattle.roomtext.proofs.Taken.{section-taken, fits-after, end-short, tail-none, tail-breaks, tail-taken}
+use Rattle.roomtext.proofs.Taken.{in-limits, section-taken, fits-after, end-short, tail-none, tail-breaks, tail-taken}
 use Rattle.roomtext.proofs.tail.Statement.{statement}
 use Rattle.roomtext.proofs.tail.Tie as tie
 
@@ -21,12 +19,12 @@ same-length c = search needs
 
 returns : tie.Need-returns
 unfolding sectionFound tailFound
-returns c = tail-none (rw (c .before .taken .given .1) at (c .before .before .before .before .section .ensures))
+returns c = tail-none (in-limits (rw (c .before .taken .given .1) at (c .before .before .before .before .section .ensures)) (omega arith) (omega arith))
 
 -- the blockers that were read
 first : (c : tie.After-known-told2) → SectionTaken 0 2147483647 (c .before .before .before .before .before .before .before .args .text .now) (c .before .before .before .before .before .before .before .args .at) 0 (c .before .before .before .before .before .before .before .args .numbers .now) (c .before .before .before .before .section .last .1 .1 .1 .1 .0) (c .before .taken2 .given .0 .0) (c .before .taken2 .given .0 .1 .0)
 unfolding sectionFound
-first c = section-taken (rw (c .before .taken2 .given .1) at (c .before .before .before .before .section .ensures))
+first c = section-taken (in-limits (rw (c .before .taken2 .given .1) at (c .before .before .before .before .section .ensures)) (omega arith) (omega arith))
 
 enum-known-taken-2 : tie.Need-enum-known-taken-2
 enum-known-taken-2 c = search needs
@@ -35,7 +33,7 @@ mul-end : tie.Need-mul-end
 mul-end c = let i = first (c .before) .high in search needs
 
 end-requires : tie.Need-end-requires
-end-requires c κs = let z : 0 + 4 * (c .before .before .taken2 .given .0 .0) ≡ 4 * (c .before .before .taken2 .given .0 .0) = omega arith in rw z at (fits-after (first (c .before)) (c .before .before .before .before .before .before .before .before .pre))
+end-requires c κs = fits-after (first (c .before)) (c .before .before .before .before .before .before .before .before .pre) (omega arith)
 
 enum-known-rest : tie.Need-enum-known-rest
 enum-known-rest c = search needs
@@ -52,7 +50,7 @@ same-length-2 c = search needs
 
 returns-2 : tie.Need-returns-2
 unfolding endFound tailFound
-returns-2 c = tail-breaks (first (c .before .before .before .before .before .before)) (rw (c .before .rest .given .1) at (c .before .before .before .before .end .ensures))
+returns-2 c = tail-breaks (first (c .before .before .before .before .before .before)) (rw (c .before .rest .given .1) at (c .before .before .before .before .end .ensures)) (omega arith)
 
 enum-known-rest-2 : tie.Need-enum-known-rest-2
 enum-known-rest-2 c = search needs

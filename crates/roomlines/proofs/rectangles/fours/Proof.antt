@@ -1,10 +1,11 @@
 -- `roomlines::rectangles::fours`: the lines so far are read and stored.
 use mathlib.Core.Path.{_∙_}
-use Prim.Native.Nat.{_+_, _-_}
+use Prim.Native.Nat.{_-_}
 use native.Mathlib.Omega.{arith}
 use borrow.Author.Needs.{needs}
+use Rattle.roomlines.specs.Fours.{TakesFour, line-up-to}
 use Rattle.roomlines.specs.Answers.{lineTaken, linesFound}
-use Rattle.roomlines.proofs.Stored.{FoursRead, read-none, read-turn, read-length, read-fits, fours-broken, fours-taken}
+use Rattle.roomlines.proofs.Stored.{FoursRead, read-none, read-turn, turn-inside, read-length, read-fits, fours-broken, fours-taken}
 use Rattle.roomlines.proofs.rectangles.fours.Statement.{statement}
 use Rattle.roomlines.proofs.rectangles.fours.Tie as tie
 
@@ -33,13 +34,13 @@ returns : tie.Need-returns Inv-loop μ-loop
 unfolding lineTaken linesFound
 returns c = fours-broken (c .before .before .before .before .before .before .loop .inv) (rw (c .enum-told .given .1) at (c .before .before .before .take .ensures)) (c .before .before .before .before .before .loop-test .taken)
 
--- a line more
-again : (c : tie.After-known-told Inv-loop μ-loop) → FoursRead (c .before .before .before .before .before .before .before .before .before .args .text .now) (c .before .before .before .before .before .before .before .before .before .args .at) (c .before .before .before .before .before .before .before .before .before .args .count) (c .before .before .before .before .before .before .before .before .before .args .place) (c .before .before .before .before .before .before .before .before .before .args .numbers .now) (c .before .before .before .before .take .last .1 .1 .0) (c .before .taken .given .0 .0) (c .before .before .before .before .before .before .before .loop .to + 4) (c .before .before .before .before .before .before .before .loop .passed + 1)
+-- a line more was read and stored
+turn : (c : tie.After-known-told Inv-loop μ-loop) → TakesFour (c .before .before .before .before .before .before .before .before .before .args .text .now) (c .before .before .before .before .before .before .before .loop .from) (c .before .before .before .before .before .before .before .loop .to) (c .before .before .before .before .before .before .before .loop .numbers) (c .before .before .before .before .take .last .1 .1 .0) (line-up-to (c .before .taken .given .0 .0))
 unfolding lineTaken
-again c = read-turn (c .before .before .before .before .before .before .before .loop .inv) (rw (c .before .taken .given .1) at (c .before .before .before .before .take .ensures)) (c .before .before .before .before .before .before .loop-test .taken)
+turn c = rw (c .before .taken .given .1) at (c .before .before .before .before .take .ensures)
 
 add-to : tie.Need-add-to Inv-loop μ-loop
-add-to c = let a = again c in omega (arith, a .behind, a .lines .inside)
+add-to c = let i = turn-inside (c .before .before .before .before .before .before .before .loop .inv) (turn c) in search needs
 
 add-passed : tie.Need-add-passed Inv-loop μ-loop
 add-passed c = search needs
@@ -48,7 +49,7 @@ loop-less : tie.Need-loop-less Inv-loop μ-loop
 loop-less c = omega arith
 
 loop-again : tie.Need-loop-again Inv-loop μ-loop
-loop-again c = again c
+loop-again c = read-turn (c .before .before .before .before .before .before .before .loop .inv) (turn c) (c .before .before .before .before .before .before .loop-test .taken) (omega arith) (omega arith)
 
 same-length-2 : tie.Need-same-length-2 Inv-loop μ-loop
 same-length-2 c = read-length (c .before .loop .inv)

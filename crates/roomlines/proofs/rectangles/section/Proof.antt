@@ -1,4 +1,5 @@
 -- `roomlines::rectangles::section`: the count, and then the lines.
+use native.Mathlib.Omega.{arith}
 use borrow.Author.Needs.{needs}
 use Rattle.roomlines.specs.Forms.{ReadsCount, count}
 use Rattle.roomlines.specs.Answers.{countFound, linesFound, sectionFound}
@@ -49,7 +50,7 @@ same-length-2 c = search needs
 
 returns-3 : tie.Need-returns-3
 unfolding linesFound sectionFound
-returns-3 c = section-breaks (counted (c .before .before .before .before .before .before)) (rw (c .before .lines2 .given .1) at (c .before .before .before .before .fours .ensures))
+returns-3 c = section-breaks (counted (c .before .before .before .before .before .before)) (rw (c .before .lines2 .given .1) at (c .before .before .before .before .fours .ensures)) (omega arith)
 
 pub section-spec : {M : Type 1} → statement M
 section-spec =

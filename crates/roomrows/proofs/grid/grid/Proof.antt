@@ -5,7 +5,7 @@ use Rattle.roomlines.specs.Forms.{ReadsCount, count}
 use Rattle.roomlines.specs.Answers.{countFound}
 use Rattle.roomrows.specs.Answers.{rowsFound, gridFound}
 use Rattle.roomlines.proofs.Sections.{count-least}
-use Rattle.roomrows.proofs.Lined.{grid-none, grid-fits, grid-taken, grid-breaks, grid-short}
+use Rattle.roomrows.proofs.Lined.{at-least-one, grid-none, grid-fits, grid-taken, grid-breaks, grid-short}
 use Rattle.roomrows.proofs.grid.grid.Statement.{statement}
 use Rattle.roomrows.proofs.grid.grid.Tie as tie
 
@@ -20,12 +20,12 @@ enum-told c = search needs
 
 returns : tie.Need-returns
 unfolding countFound gridFound
-returns c = grid-none (rw (c .enum-told .given .1) at (c .before .before .count .ensures))
+returns c = grid-none (at-least-one (rw (c .enum-told .given .1) at (c .before .before .count .ensures)) (omega arith) (omega arith))
 
 -- the count that was read
 counted : (c : tie.After-known-told) → ReadsCount 1 2147483647 (c .before .before .before .before .before .before .args .text .now) (c .before .before .before .before .before .before .args .at) (count (c .before .number .given .0 .0) (c .before .number .given .0 .1 .0))
 unfolding countFound
-counted c = rw (c .before .number .given .1) at (c .before .before .before .count .ensures)
+counted c = at-least-one (rw (c .before .number .given .1) at (c .before .before .before .count .ensures)) (omega arith) (omega arith)
 
 rows-requires : tie.Need-rows-requires
 rows-requires c κs = let r = counted (c .before) in (grid-fits r (c .before .before .before .before .before .before .before .pre), omega (arith, count-least r))
@@ -52,7 +52,7 @@ same-length-2 c = search needs
 
 returns-3 : tie.Need-returns-3
 unfolding rowsFound gridFound
-returns-3 c = grid-breaks (counted (c .before .before .before .before .before .before .before)) (rw (c .before .lines2 .given .1) at (c .before .before .before .before .before .rows .ensures))
+returns-3 c = grid-breaks (counted (c .before .before .before .before .before .before .before)) (rw (c .before .lines2 .given .1) at (c .before .before .before .before .before .rows .ensures)) (omega arith)
 
 pub grid-spec : {M : Type 1} → statement M
 grid-spec =

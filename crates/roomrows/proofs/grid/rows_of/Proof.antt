@@ -1,6 +1,6 @@
 -- `roomrows::grid::rows_of`: the rows so far are read and stored.
 use mathlib.Core.Bool.{true}
-use Prim.Native.Nat.{_+_, _-_}
+use Prim.Native.Nat.{_-_}
 use native.Mathlib.Omega.{arith}
 use borrow.Author.Needs.{needs}
 use borrow.Author.Tests.{not-true, not-false}
@@ -42,12 +42,8 @@ add-from c = let w = rows-room (c .before .before .before .before .before .befor
 add-from-2 : tie.Need-add-from-2 Inv-loop μ-loop
 add-from-2 c = let w = rows-room (c .before .before .before .before .before .before .before .loop .inv) (c .before .before .before .before .before .before .before .before .before .before .pre .0) (stands (c .before .before .before .before)) .0 in search needs
 
--- a row more
-again : (c : tie.After-slice-known2 Inv-loop μ-loop) → RowsRead (c .before .before .before .before .before .before .before .before .before .before .args .text .now) (c .before .before .before .before .before .before .before .before .before .before .args .at) (c .before .before .before .before .before .before .before .before .before .before .args .count) (c .before .before .before .before .before .before .before .before .before .before .args .width) (c .before .before .before .before .before .before .before .before .before .before .args .cells .now) (c .before .before .store .last .1 .1 .1 .0) (c .before .before .before .before .before .before .before .loop .from + c .before .before .before .before .before .before .before .before .before .before .args .width + 1) (c .before .before .before .before .before .before .before .loop .to + c .before .before .before .before .before .before .before .before .before .before .args .width) (c .before .before .before .before .before .before .before .loop .passed + 1)
-again c = rows-turn (c .before .before .before .before .before .before .before .loop .inv) (stands (c .before .before .before .before)) (c .before .before .store .ensures) (c .before .before .before .before .before .before .loop-test .taken)
-
 add-to : tie.Need-add-to Inv-loop μ-loop
-add-to c = let a = again c in let b = a .behind in let d = a .stand .inside in omega (arith, b, d)
+add-to c = let b = c .before .before .before .before .before .before .before .loop .inv .behind in let w = rows-room (c .before .before .before .before .before .before .before .loop .inv) (c .before .before .before .before .before .before .before .before .before .before .pre .0) (stands (c .before .before .before .before)) .0 in omega (arith, b, w)
 
 add-passed : tie.Need-add-passed Inv-loop μ-loop
 add-passed c = search needs
@@ -56,7 +52,7 @@ loop-less : tie.Need-loop-less Inv-loop μ-loop
 loop-less c = omega arith
 
 loop-again : tie.Need-loop-again Inv-loop μ-loop
-loop-again c = again c
+loop-again c = rows-turn (c .before .before .before .before .before .before .before .loop .inv) (stands (c .before .before .before .before)) (c .before .before .store .ensures) (c .before .before .before .before .before .before .loop-test .taken) (omega arith) (omega arith) (omega arith)
 
 same-length-2 : tie.Need-same-length-2 Inv-loop μ-loop
 same-length-2 c = rows-length (c .before .loop .inv)
