@@ -5,3 +5,4 @@ pub mod Rooms
 pub mod Taken
 pub mod Read
 pub mod One
+pub mod Judging

@@ -1,4 +1,6 @@
 // A room text, read section by section in one pass. What is read is stored in lent buffers, and a text that breaks the form is answered with its first line that does.
+pub mod verdict;
+
 use roomlines::rectangles;
 use roomlines::rectangles::FoundSection;
 use roomrows::grid;
