@@ -6,3 +6,4 @@ pub mod Taken
 pub mod Read
 pub mod One
 pub mod Judging
+pub mod Buffers

@@ -26,7 +26,7 @@ stored-join before place to fs gs e =
     ap (λ (i : ℕ). sets (sets before place (numbersOf fs)) i (numbersOf gs)) there ∙ sym (ap (sets before place) (numbers-append fs gs) ∙ sets-append before place (numbersOf fs) (numbersOf gs))
 
 -- lines of four numbers have more bytes than numbers
-fours-long : (fs : List Four) → 4 * length fs ≤ length (textOf (map fourLine fs))
+pub fours-long : (fs : List Four) → 4 * length fs ≤ length (textOf (map fourLine fs))
 unfolding textOf
 fours-long [] = omega arith
 fours-long (f ∷ fs) = omega (arith, fours-long fs, four-long f, length-append (fourLine f) (10 ∷ textOf (map fourLine fs)))
