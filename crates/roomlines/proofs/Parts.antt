@@ -29,3 +29,6 @@ pub text-long : (ls : List (List ℕ)) → length ls ≤ length (textOf ls)
 unfolding textOf
 text-long [] = omega arith
 text-long (l ∷ ls) = omega (arith, text-long ls, length-append l (10 ∷ textOf ls))
+
+pub length-parts {ℓ} : {A : Type ℓ} (a b d e : List A) → length (a ++ (b ++ (d ++ e))) ≡ length a + (length b + (length d + length e))
+length-parts a b d e = length-append a (b ++ (d ++ e)) ∙ ap (λ (i : ℕ). length a + i) (length-append b (d ++ e) ∙ ap (λ (i : ℕ). length b + i) (length-append d e))

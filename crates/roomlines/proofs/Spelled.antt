@@ -2,25 +2,18 @@
 use mathlib.Core.Path.{_≡_, refl, sym, ap, _∙_}
 use mathlib.Core.Bool.{false}
 use mathlib.Core.List.{List, _∷_, _++_}
-use Prim.Native.Nat.{ℕ, _+_, _-_, _≤_, _<_}
+use Prim.Native.Nat.{ℕ, _+_, _-_}
 use native.Mathlib.Omega.{arith}
 use lib.IntN.{ℤ}
 use lib.ListN.{length, drop, length-append, length-drop}
-use lib.Seq.{drop-drop, drop-append-seam, drop-append-add}
+use lib.Seq.{drop-drop, drop-append-add}
 use Rattle.decimal.specs.Numbers.{isDigit, decimalOf, Within, nothing, FollowedAt, ReadsFollowed, refuses-followed}
 use Rattle.decimal.proofs.Places.{number-one}
 use Rattle.decimal.proofs.Following.{follows, number-there}
 
--- ---- what stands after a part of a text
-module _ (text : List ℕ) (at : ℕ) (l r : List ℕ) (e : drop at text ≡ l ++ r) where
-  pub after-part : drop (at + length l) text ≡ r
-  after-part = sym (drop-drop (length l) at text) ∙ ap (drop (length l)) e ∙ drop-append-seam l r
-
-  pub part-length : length text - at ≡ length l + length r
-  part-length = sym (length-drop at text) ∙ ap length e ∙ length-append l r
-
-  pub part-inside : 0 < length l → at + length l ≤ length text
-  part-inside h = omega (arith, part-length)
+-- a text in two parts, from a place on
+pub part-length : (text : List ℕ) (at : ℕ) (l r : List ℕ) → drop at text ≡ l ++ r → length text - at ≡ length l + length r
+part-length text at l r e = sym (length-drop at text) ∙ ap length e ∙ length-append l r
 
 module _ (text : List ℕ) (at byte : ℕ) (x : ℤ) (r : List ℕ) (e : drop at text ≡ decimalOf x ++ (byte ∷ r)) where
   goes-on-rest : drop (at + (length (decimalOf x) + 1)) text ≡ r

@@ -173,9 +173,6 @@ module _ {text : List ℕ} {at n width : ℕ} {before now : List ℕ} {from to p
           absent content after (rw s at (parts .1)) e
 
 -- ---- the section of rows
-rows-sized : {n : ℕ} {ls : List (List ℕ)} → RowLines n ls → length ls ≡ n
-rows-sized r = r .number
-
 -- a count in the limits that the rows have
 pub at-least-one : {lowest highest : ℕ} {text : List ℕ} {at : ℕ} {found : CountFound} → ReadsCount lowest highest text at found → lowest ≡ 1 → highest ≡ 2147483647 → ReadsCount 1 2147483647 text at found
 at-least-one r p q = rw (p, q) at r

@@ -12,7 +12,7 @@ use lib.Seq.{slice, sets, sets-eq, take-at, drop-at, getD-append-add}
 use Rattle.decimal.specs.Numbers.{decimalOf}
 use Rattle.textlines.specs.Lines.{textOf}
 use Rattle.roomlines.specs.Fours.{fourLine, numbersOf}
-use Rattle.roomlines.proofs.Parts.{text-append}
+use Rattle.roomlines.proofs.Parts.{text-append, length-parts}
 use Rattle.roomlines.proofs.Stored.{numbers-append, numbers-length}
 use Rattle.roomrows.specs.Rows.{cellOf, cellsOf, AllRows, nothing, more}
 use Rattle.roomtext.specs.Room.{counted, roomLines, roomText}
@@ -48,10 +48,7 @@ module _ {text cells-before cells-after : List ℕ} {numbers-before numbers-afte
   unfolding roomText roomLines
   text-size =
       ap length (t .text-is ∙ text-append (counted (t .is .rows)) _ ∙ ap (λ (l : List ℕ). textOf (counted (t .is .rows)) ++ l) (text-append (counted (map fourLine (t .is .blockers))) _ ∙ ap (λ (l : List ℕ). textOf (counted (map fourLine (t .is .blockers))) ++ l) (text-append (counted (map fourLine (t .is .resources))) (counted (fourLine (t .is .targets) ∷ []))))) ∙
-      parts (textOf (counted (t .is .rows))) (textOf (counted (map fourLine (t .is .blockers)))) (textOf (counted (map fourLine (t .is .resources)))) (textOf (counted (fourLine (t .is .targets) ∷ [])))
-    where
-      parts : (a b d e : List ℕ) → length (a ++ (b ++ (d ++ e))) ≡ length a + (length b + (length d + length e))
-      parts a b d e = length-append a (b ++ (d ++ e)) ∙ ap (λ (i : ℕ). length a + i) (length-append b (d ++ e) ∙ ap (λ (i : ℕ). length b + i) (length-append d e))
+      length-parts (textOf (counted (t .is .rows))) (textOf (counted (map fourLine (t .is .blockers)))) (textOf (counted (map fourLine (t .is .resources)))) (textOf (counted (fourLine (t .is .targets) ∷ [])))
 
   pub cells-short : width * height ≤ length text
   cells-short = omega (arith, cells-number, text-size, rows-long (t .is .rows), counted-long (t .is .rows))

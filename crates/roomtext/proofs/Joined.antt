@@ -13,7 +13,7 @@ use Rattle.roomtext.specs.Readings.{Both}
 pub record Ending (Form : List (List ℕ) → Type 0) : Type 0 where
   pub one : {a b : List (List ℕ)} (x y : List (List ℕ)) → Form a → Form b → a ++ x ≡ b ++ y → (a ≡ b) × (x ≡ y)
 
-carry : (Form : List (List ℕ) → Type 0) {a b : List (List ℕ)} → a ≡ b → Form a → Form b
+pub carry : (Form : List (List ℕ) → Type 0) {a b : List (List ℕ)} → a ≡ b → Form a → Form b
 carry Form p f = rw p at f
 
 -- ---- a list that goes on after two fronts

@@ -4,10 +4,11 @@ use mathlib.Core.List.{List, [], _∷_, _++_, map, append-nil}
 use Prim.Native.Nat.{ℕ, _+_, _≤_, _<_}
 use native.Mathlib.Omega.{arith}
 use lib.IntN.{ℤ}
-use lib.ListN.{length, drop, length-append, length-drop, length-map, drop-of-length-le}
+use lib.ListN.{length, drop, length-drop, length-map, drop-of-length-le}
 use Rattle.textlines.specs.Lines.{textOf}
 use Rattle.roomlines.specs.Fours.{Four, fourLine, BufferFits}
 use Rattle.roomlines.specs.Forms.{LinesAt}
+use Rattle.roomlines.proofs.Parts.{length-parts}
 use Rattle.roomlines.proofs.Sections.{lines-append, breaks-short}
 use Rattle.roomrows.specs.Rows.{CellsFit, grid, grid-broken, GridTaken, TakesGrid, takes-grid, breaks-grid}
 use Rattle.roomtext.specs.Room.{Room, counted, roomLines, roomText, Formed}
@@ -39,9 +40,6 @@ pub numbers-fit : {text cells-before cells-after cells : List ℕ} {numbers : Li
 numbers-fit f g = record { inside = g .stand .inside; behind = omega arith; long = f .numbers-long }
 
 -- ---- how many lines there are
-four-parts : (a b d e : List (List ℕ)) → length (a ++ (b ++ (d ++ e))) ≡ length a + (length b + (length d + length e))
-four-parts a b d e = length-append a (b ++ (d ++ e)) ∙ ap (λ (i : ℕ). length a + i) (length-append b (d ++ e) ∙ ap (λ (i : ℕ). length b + i) (length-append d e))
-
 fours-size : (fs : List Four) → length (counted (map fourLine fs)) ≡ length fs + 1
 unfolding counted
 fours-size fs = omega (arith, length-map fs fourLine)
@@ -99,7 +97,7 @@ module _ {text cells-before cells-after : List ℕ} {width height from : ℕ} (g
     made-size : length (roomLines made) ≡ height + m + n + 5
     unfolding roomLines
     made-size =
-        four-parts (counted (g .lines)) (counted (map fourLine (t .blockers))) (counted (map fourLine (t .resources))) (counted (fourLine (t .targets) ∷ [])) ∙
+        length-parts (counted (g .lines)) (counted (map fourLine (t .blockers))) (counted (map fourLine (t .resources))) (counted (fourLine (t .targets) ∷ [])) ∙
         omega (arith, grid-size, fours-size (t .blockers), fours-size (t .resources), fours-size (t .targets ∷ []), t .blockers-number, t .resources-number)
 
     pub room-read : length text ≤ past → ReadsRoom text cells-before cells-after before after (room width height m n)

@@ -14,7 +14,7 @@ use Rattle.roomlines.proofs.Stored.{fours-sized}
 use Rattle.roomlines.proofs.Sections.{counted-one}
 use Rattle.roomtext.specs.Room.{Room, counted, roomLines, roomText, Formed, Breaks}
 use Rattle.roomtext.specs.Readings.{RowsForm, RectanglesForm, TargetsForm, EndForm, RoomForm}
-use Rattle.roomtext.proofs.Joined.{Ending, both-ending}
+use Rattle.roomtext.proofs.Joined.{Ending, carry, both-ending}
 use Rattle.roomtext.proofs.Split.{plain-front, room-plain, Rest, whole-split}
 
 -- ---- each form ends at one place
@@ -151,9 +151,6 @@ form-room v =
           sym (v .is ∙ ap (λ (l : List (List ℕ)). v .front ++ l) (v .second .is ∙ ap (λ (l : List (List ℕ)). v .second .front ++ l) (v .second .second .is)));
     }
 
-carry : {a b : List (List ℕ)} → a ≡ b → RoomForm a → RoomForm b
-carry p f = rw p at f
-
 -- ---- where a text first breaks the form
 whole-text : (room : Room) → roomText room ≡ textOf (roomLines room) ++ []
 unfolding roomText
@@ -172,7 +169,7 @@ module _ {text : List ℕ} {passed : ℕ} (b : BreaksIn RoomForm text passed) wh
         formed = r .formed;
         more = b .more;
         starts = r .is;
-        stops = λ other f content after others e s. b .stops content after others e (carry s (room-form f));
+        stops = λ other f content after others e s. b .stops content after others e (carry RoomForm s (room-form f));
         unfinished = λ other f e. ends other f (whole-split (b .rest) (plain-front (b .first) (b .more) (rw (r .is) at (room-plain (r .formed)))) (room-plain f) (sym (b .split) ∙ e ∙ whole-text other));
       }
     where
@@ -180,8 +177,8 @@ module _ {text : List ℕ} {passed : ℕ} (b : BreaksIn RoomForm text passed) wh
       ends other f r = by-lines (r .lines) (r .is) (r .text)
         where
           by-lines : (ls : List (List ℕ)) → roomLines other ≡ b .first ++ ls → b .rest ≡ textOf ls ++ [] → ⊥
-          by-lines [] e t = b .unfinished (carry (e ∙ append-nil (b .first)) (room-form f))
-          by-lines (l ∷ ls) e t = b .stops l (textOf ls ++ []) ls (t ∙ line-on l ls []) (carry e (room-form f))
+          by-lines [] e t = b .unfinished (carry RoomForm (e ∙ append-nil (b .first)) (room-form f))
+          by-lines (l ∷ ls) e t = b .stops l (textOf ls ++ []) ls (t ∙ line-on l ls []) (carry RoomForm e (room-form f))
 
 -- lines that are a whole room text, and bytes after them
 no-more : {lines : List (List ℕ)} → RoomForm lines → (other : Room) → Formed other → (ls : List (List ℕ)) → roomLines other ≡ lines ++ ls → ls ≡ []
