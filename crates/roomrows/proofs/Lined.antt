@@ -42,7 +42,7 @@ cells-one row = append-nil (map cellOf row)
 dots : (width : ℕ) → RowOf width (replicate width 46)
 dots width = record { size = length-replicate width 46; each = λ k h. ap isCell (getD-replicate width k 46 0 (omega (arith, length-replicate {A = ℕ} width 46))) ∙ dot-cell }
 
-all-dots : (n width : ℕ) → AllRows width (replicate n (replicate width 46))
+pub all-dots : (n width : ℕ) → AllRows width (replicate n (replicate width 46))
 all-dots zero width = nothing
 all-dots (suc n) width = more (dots width) (all-dots n width)
 

@@ -7,3 +7,4 @@ pub mod Read
 pub mod One
 pub mod Judging
 pub mod Buffers
+pub mod Example
