@@ -1,16 +1,11 @@
 -- Lines at a place of a text.
-use mathlib.Core.Path.{_≡_, refl, ap, _∙_}
-use mathlib.Core.Bool.{Bool, true, false, cond}
-use mathlib.Core.List.{List, [], _∷_, _++_}
-use Prim.Native.Nat.{ℕ, zero, suc, _+_, _-_, _≤_, _<_}
-use native.Mathlib.Numerals.{add-one}
+use mathlib.Core.Path.{_≡_, refl, ap}
+use mathlib.Core.List.{List}
+use Prim.Native.Nat.{ℕ, _+_, _≤_, _<_}
 use native.Mathlib.Omega.{arith}
 use native.Mathlib.Decide.{decLt}
-use borrow.Author.Tests.{eq-eqb, ne-eqb}
-use lib.Dec.{eqb}
-use lib.ListN.{length, getD, take}
-use lib.Seq.{take-suc}
-use Rattle.textlines.specs.Lines.{LineAt, LineFound, ends, unended, FindsLine, line, none, lineEnds, IsPlace}
+use lib.ListN.{length, getD}
+use Rattle.textlines.specs.Lines.{LineAt, LineFound, ends, unended, FindsLine, line, none}
 
 by-cases {ℓ} : {A : Type 0} {B : Type ℓ} → Dec A → (A → B) → ((A → ⊥) → B) → B
 by-cases (yes a) f g = f a
@@ -51,51 +46,3 @@ module _ {text : List ℕ} {at end : ℕ} (w : Without text at end) where
 
   pub without-unended : length text ≤ end → FindsLine text at unended
   without-unended h = none (λ e l. let i = l .inside in w .content e (l .from) (omega arith) (l .ended))
-
--- ---- line ends that were passed
-ends-append : (l t : List ℕ) → lineEnds (l ++ t) ≡ lineEnds l + lineEnds t
-unfolding lineEnds
-ends-append [] t = omega arith
-ends-append (b ∷ l) t = omega (arith, ends-append l t)
-
-byte-ends : (byte : ℕ) → lineEnds (byte ∷ []) ≡ cond (eqb byte 10) 1 0
-unfolding lineEnds
-byte-ends byte = omega arith
-
-passed-byte : (text : List ℕ) (i : ℕ) → i < length text → lineEnds (take (i + 1) text) ≡ lineEnds (take i text) + cond (eqb (getD text i 0) 10) 1 0
-passed-byte text i h = rw (add-one i, take-suc text i 0 h) (ends-append (take i text) (getD text i 0 ∷ []) ∙ rw (byte-ends (getD text i 0)))
-
--- bytes that are no LF pass no line
-passed-content : (text : List ℕ) (at n : ℕ) → at + n ≤ length text → ((k : ℕ) → at ≤ k → k < at + n → getD text k 0 ≡ 10 → ⊥) → lineEnds (take (at + n) text) ≡ lineEnds (take at text)
-passed-content text at zero h without = let e : at + 0 ≡ at = omega arith in rw e
-passed-content text at (suc n) h without =
-    let e : at + suc n ≡ at + n + 1 = omega arith in
-    ap (λ (i : ℕ). lineEnds (take i text)) e ∙ passed-byte text (at + n) (omega arith) ∙
-    ap (λ (b : Bool). lineEnds (take (at + n) text) + cond b 1 0) (ne-eqb (getD text (at + n) 0) 10 (without (at + n) (omega arith) (omega arith))) ∙
-    (let z : lineEnds (take (at + n) text) + 0 ≡ lineEnds (take (at + n) text) = omega arith in z) ∙
-    passed-content text at n (omega arith) (λ k i j. without k i (omega arith))
-
-pub most-ends : (text : List ℕ) (at : ℕ) → lineEnds (take at text) ≤ at
-unfolding lineEnds
-most-ends [] zero = omega arith
-most-ends [] (suc at) = omega arith
-most-ends (b ∷ text) zero = omega arith
-most-ends (b ∷ text) (suc at) = one-more (eqb b 10) (lineEnds (take at text)) at (most-ends text at)
-  where
-    one-more : (x : Bool) (m i : ℕ) → m ≤ i → cond x 1 0 + m ≤ suc i
-    one-more true m i h = omega arith
-    one-more false m i h = omega arith
-
-pub start-place : (text : List ℕ) → IsPlace text 0 0
-unfolding lineEnds
-start-place text = record { inside = omega arith; counted = refl }
-
-pub next-place : {text : List ℕ} {at passed end next count : ℕ} → IsPlace text at passed → LineAt text at end → next ≡ end + 1 → count ≡ passed + 1 → IsPlace text next count
-next-place {text} {at} {passed} {end} {next} {count} p l past more =
-    let from = l .from in
-    let within = l .inside in
-    let e : at + (end - at) ≡ end = omega arith in
-    let f : lineEnds (take (at + (end - at)) text) ≡ lineEnds (take at text) = passed-content text at (end - at) (omega arith) (λ k i j. l .content k i (omega arith)) in
-    let g : lineEnds (take end text) ≡ lineEnds (take at text) = rw e at f in
-    let one : _≡_ {A = ℕ} (cond (eqb (getD text end 0) 10) 1 0) 1 = rw (eq-eqb (getD text end 0) 10 (l .ended)) in
-    record { inside = omega arith; counted = rw past (omega (arith, p .counted, g, one, passed-byte text end within)) }

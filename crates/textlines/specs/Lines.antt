@@ -1,10 +1,8 @@
--- Document 01, "Room text and the program": the lines of a text, and a place in it that remembers how far it has come.
+-- Document 01, "Room text and the program": the lines of a text.
 use mathlib.Core.Path.{_≡_}
-use mathlib.Core.Bool.{cond}
 use mathlib.Core.List.{List, [], _∷_, _++_}
-use Prim.Native.Nat.{ℕ, _+_, _≤_, _<_}
-use lib.Dec.{eqb}
-use lib.ListN.{length, getD, take}
+use Prim.Native.Nat.{ℕ, _≤_, _<_}
+use lib.ListN.{length, getD}
 
 -- "Every line ends in LF, nothing follows": LF is the byte 10
 unfoldable pub textOf : List (List ℕ) → List ℕ
@@ -34,13 +32,3 @@ pub data LineFound : Type 0 where
 pub data FindsLine (text : List ℕ) (at : ℕ) : LineFound → Type 0 where
   line : {end : ℕ} → LineAt text at end → FindsLine text at (ends end)
   none : ((end : ℕ) → LineAt text at end → ⊥) → FindsLine text at unended
-
--- how many line ends a text has
-unfoldable pub lineEnds : List ℕ → ℕ
-lineEnds [] = 0
-lineEnds (byte ∷ text) = cond (eqb byte 10) 1 0 + lineEnds text
-
--- "first line that breaks it, from 1": a place in a text, and how many lines ended before it, one less than the number of its line
-pub record IsPlace (text : List ℕ) (at passed : ℕ) : Type 0 where
-  pub inside : at ≤ length text
-  pub counted : passed ≡ lineEnds (take at text)
