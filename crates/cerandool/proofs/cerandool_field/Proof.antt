@@ -13,7 +13,7 @@ use Rattle.cells.specs.Boxes.{reach}
 use Rattle.rings.specs.Rings.{corners}
 use Rattle.plan.specs.Plans.{inputOf}
 use Rattle.make.specs.Makes.{lent}
-use Rattle.cerandool.proofs.Bounds.{in-u32}
+use Rattle.numbers.proofs.Bounds.{in-u32}
 use Rattle.cerandool.proofs.cerandool_field.Statement.{statement}
 use Rattle.cerandool.proofs.cerandool_field.Tie as tie
 
@@ -40,8 +40,8 @@ as-given b p = rw (toZ-ofZ w32 (b .args .left) (b .fits .left), toZ-ofZ w32 (b .
 field-requires : tie.Need-field-requires
 field-requires c κs = search needs
 
-numbers-requires : tie.Need-numbers-requires
-numbers-requires c κs =
+field-numbers-requires : tie.Need-field-numbers-requires
+field-numbers-requires c κs =
     let f = c .before .before .before .before .before .before .before .before .before .before .before .before .before in
     let b = f .before .before .before .before .before .before .before .before .before .before .before .before .before .before .before in
     in-u32 (given b) (before b) (omega (arith, b .fits .lanes)) (as-given b (f .field .ensures))
@@ -71,14 +71,14 @@ returns : tie.Need-returns
 returns c =
     let f = c .before .before .before .before .before .before .before .before .before .before .before .before .before .before in
     let b = f .before .before .before .before .before .before .before .before .before .before .before .before .before .before .before in
-    record { answer = _; promise = as-given b (f .field .ensures); numbers = c .numbers .ensures }
+    record { answer = _; promise = as-given b (f .field .ensures); numbers = c .field-numbers .ensures }
 
 pub cerandool-field-spec : {M : Type 1} → statement M
 cerandool-field-spec =
     tie.close
     (tie.spec
     field-requires
-    numbers-requires
+    field-numbers-requires
     same-length
     same-length-2
     same-length-3
