@@ -37,6 +37,12 @@ as-given : (b : tie.Start) {after : Lent} {answer : FieldAnswer} →
     FieldPromise reach (given b) (before b) after answer
 as-given b p = rw (toZ-ofZ w32 (b .args .left) (b .fits .left), toZ-ofZ w32 (b .args .top) (b .fits .top), toZ-ofZ w32 (b .args .right) (b .fits .right), toZ-ofZ w32 (b .args .bottom) (b .fits .bottom)) at p
 
+-- what the call left
+abbrev after : tie.After-field → Lent
+after f =
+    let l = f .field .last .1 .1 .1 .1 .1 .1 .1 .1 .1 .1 in
+    lent (l .0) (l .1 .0) (l .1 .1 .0) (l .1 .1 .1 .0) (l .1 .1 .1 .1 .0) (l .1 .1 .1 .1 .1 .0) (l .1 .1 .1 .1 .1 .1 .0)
+
 field-requires : tie.Need-field-requires
 field-requires c κs = search needs
 
@@ -44,7 +50,7 @@ field-numbers-requires : tie.Need-field-numbers-requires
 field-numbers-requires c κs =
     let f = c .before .before .before .before .before .before .before .before .before .before .before .before .before in
     let b = f .before .before .before .before .before .before .before .before .before .before .before .before .before .before .before in
-    in-u32 (given b) (before b) (omega (arith, b .fits .lanes)) (as-given b (f .field .ensures))
+    in-u32 (given b) (before b) {after = after f} (omega (arith, b .fits .lanes)) (as-given b {after = after f} (f .field .ensures))
 
 same-length : tie.Need-same-length
 same-length c = c .before .before .before .before .before .before .before .before .before .before .before .before .before .before .field .kept .1 .1 .1 .1 .1 .1 .1 .1 .1 .1 .0
@@ -71,7 +77,7 @@ returns : tie.Need-returns
 returns c =
     let f = c .before .before .before .before .before .before .before .before .before .before .before .before .before .before in
     let b = f .before .before .before .before .before .before .before .before .before .before .before .before .before .before .before in
-    record { answer = _; promise = as-given b (f .field .ensures); numbers = c .field-numbers .ensures }
+    record { answer = _; promise = as-given b {after = after f} (f .field .ensures); numbers = c .field-numbers .ensures }
 
 pub cerandool-field-spec : {M : Type 1} → statement M
 cerandool-field-spec =

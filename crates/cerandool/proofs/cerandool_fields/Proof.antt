@@ -13,9 +13,10 @@ fields-requires c κs = search needs
 fields-numbers-requires : tie.Need-fields-numbers-requires
 fields-numbers-requires c κs =
     let f = c .before .before .before .before .before .before .before .before .before .before in
+    let l = f .fields .last .1 .1 .1 .1 .1 in
     let a = f .before .before .before .before .before .before .before .before .before .before .before .before .before .before .args in
     joined-in-u32 (inputOf (a .width) (a .height) (now (a .cells)) (now (a .indices)) (now (a .ends))) (lent (now (a .states)) (now (a .queue)) (now (a .parents)) (now (a .ranks)) (now (a .answers)))
-    (f .fields .ensures)
+    {after = lent (l .0) (l .1 .0) (l .1 .1 .0) (l .1 .1 .1 .0) (l .1 .1 .1 .1 .0)} (f .fields .ensures)
 
 same-length : tie.Need-same-length
 same-length c = c .before .before .before .before .before .before .before .before .before .before .before .fields .kept .1 .1 .1 .1 .1 .0
