@@ -38,23 +38,29 @@ unfoldable pub InU32 : FieldAnswer → Type 0
 InU32 (refusal number place) = Unit {0}
 InU32 (made window sweeps) = Small window sweeps
 
--- ---- access cells of one rectangle, or of many
+-- ---- the calls that count
 
--- "A refusal returns number and place"; else how many access cells there are. What a case does not have is 0.
+-- "A refusal returns number and place"; what it does not have is 0
+abbrev pub refusedNumbers : ℕ → ℕ → CountAnswer
+refusedNumbers number place = record { number = number; place = place; count = 0 }
+
+-- how many there are, and no number or place of a refusal
+abbrev pub countedNumbers : ℕ → CountAnswer
+countedNumbers count = record { number = 0; place = 0; count = count }
+
+-- access of a rectangle, or of many: how many access cells there are
 unfoldable pub listedNumbers : access.AccessAnswer → CountAnswer
-listedNumbers (access.refusal number place) = record { number = number; place = place; count = 0 }
-listedNumbers (access.listed count) = record { number = 0; place = 0; count = count }
+listedNumbers (access.refusal number place) = refusedNumbers number place
+listedNumbers (access.listed count) = countedNumbers count
 
 unfoldable pub ListedInU32 : access.AccessAnswer → Type 0
 ListedInU32 (access.refusal number place) = Unit {0}
 ListedInU32 (access.listed count) = count ≤ 4294967295
 
--- ---- the fields call
-
--- "A refusal returns number and place"; else how many fields there are. What a case does not have is 0.
+-- the fields call: how many fields there are
 unfoldable pub joinedNumbers : fields.JoinAnswer → CountAnswer
-joinedNumbers (fields.refusal number place) = record { number = number; place = place; count = 0 }
-joinedNumbers (fields.joined count) = record { number = 0; place = 0; count = count }
+joinedNumbers (fields.refusal number place) = refusedNumbers number place
+joinedNumbers (fields.joined count) = countedNumbers count
 
 unfoldable pub JoinedInU32 : fields.JoinAnswer → Type 0
 JoinedInU32 (fields.refusal number place) = Unit {0}

@@ -4,11 +4,12 @@ use accesslists;
 use field;
 use fields;
 ghost use mathlib.Core.Path.{_≡_};
+ghost use Prim.Native.Nat.{_≤_};
 ghost use Rattle.field.specs.Answers as field;
 ghost use Rattle.access.specs.Answers as access;
 ghost use Rattle.accesslists.specs.Answers as lists;
 ghost use Rattle.fields.specs.Answers as fields;
-ghost use Rattle.numbers.specs.Numbers.{numbersOf, InU32, listedNumbers, ListedInU32, joinedNumbers, JoinedInU32};
+ghost use Rattle.numbers.specs.Numbers.{numbersOf, InU32, refusedNumbers, countedNumbers, listedNumbers, ListedInU32, joinedNumbers, JoinedInU32};
 
 // What a field call leads to. Where it is accepted, number and place are 0, and the window with its lanes and the
 // sweep count follow. Where it is refused, number and place are the table's, and the rest is 0.
@@ -62,22 +63,37 @@ pub fn field_numbers(answer: field::Answer) -> FieldAnswer
     }
 }
 
+// A refusal's three numbers.
+fn refused(number: u32, place: u32) -> CountAnswer
+    ensures { λ r. ⌜ r ≡ refusedNumbers number place ⌝ }
+{
+    CountAnswer {
+        number,
+        place,
+        count: 0,
+    }
+}
+
+// The three numbers of an accepted call that counts so many.
+fn counted(count: usize) -> CountAnswer
+    requires { ⌜ count ≤ 4294967295 ⌝ }
+    ensures { λ r. ⌜ r ≡ countedNumbers count ⌝ }
+{
+    CountAnswer {
+        number: 0,
+        place: 0,
+        count: count as u32,
+    }
+}
+
 // The three numbers of the answer of access of a rectangle.
 pub fn access_numbers(answer: access::call::Answer) -> CountAnswer
     requires { ⌜ ListedInU32 (access.answerOf answer) ⌝ }
     ensures { λ r. ⌜ r ≡ listedNumbers (access.answerOf answer) ⌝ }
 {
     match answer {
-        access::call::Answer::Refused { number, place } => CountAnswer {
-            number,
-            place,
-            count: 0,
-        },
-        access::call::Answer::Listed { count } => CountAnswer {
-            number: 0,
-            place: 0,
-            count: count as u32,
-        },
+        access::call::Answer::Refused { number, place } => refused(number, place),
+        access::call::Answer::Listed { count } => counted(count),
     }
 }
 
@@ -87,16 +103,8 @@ pub fn lists_numbers(answer: accesslists::call::Answer) -> CountAnswer
     ensures { λ r. ⌜ r ≡ listedNumbers (lists.answerOf answer) ⌝ }
 {
     match answer {
-        accesslists::call::Answer::Refused { number, place } => CountAnswer {
-            number,
-            place,
-            count: 0,
-        },
-        accesslists::call::Answer::Listed { count } => CountAnswer {
-            number: 0,
-            place: 0,
-            count: count as u32,
-        },
+        accesslists::call::Answer::Refused { number, place } => refused(number, place),
+        accesslists::call::Answer::Listed { count } => counted(count),
     }
 }
 
@@ -106,15 +114,7 @@ pub fn fields_numbers(answer: fields::call::Answer) -> CountAnswer
     ensures { λ r. ⌜ r ≡ joinedNumbers (fields.answerOf answer) ⌝ }
 {
     match answer {
-        fields::call::Answer::Refused { number, place } => CountAnswer {
-            number,
-            place,
-            count: 0,
-        },
-        fields::call::Answer::Joined { count } => CountAnswer {
-            number: 0,
-            place: 0,
-            count: count as u32,
-        },
+        fields::call::Answer::Refused { number, place } => refused(number, place),
+        fields::call::Answer::Joined { count } => counted(count),
     }
 }

@@ -1,5 +1,4 @@
--- `numbers::fields_numbers`: each case gives its own numbers, and the count that is cast is a u32.
-use Prim.Native.Nat.{_≤_}
+-- `numbers::fields_numbers`: each case gives its own numbers, and the count is a u32.
 use borrow.Author.Needs.{needs}
 use Rattle.fields.specs.Answers.{answerOf}
 use Rattle.numbers.specs.Numbers.{joinedNumbers, JoinedInU32}
@@ -9,24 +8,23 @@ use Rattle.numbers.proofs.fields_numbers.Tie as tie
 enum-known-answer : tie.Need-enum-known-answer
 enum-known-answer c = search needs
 
+refused-requires : tie.Need-refused-requires
+refused-requires c κs = search needs
+
 enum-known-answer-2 : tie.Need-enum-known-answer-2
 enum-known-answer-2 c = search needs
 
--- what is required of an accepted call's count
-small : (c : tie.After-known-told2) → c .before .answer2 .given .0 .0 ≤ 4294967295
+counted-requires : tie.Need-counted-requires
 unfolding JoinedInU32 answerOf
-small c = rw (c .before .answer2 .given .1) at (c .before .before .before .pre)
-
-cast-t6 : tie.Need-cast-t6
-cast-t6 c = let s = small c in search needs
+counted-requires c κs = rw (c .before .answer2 .given .1) at (c .before .before .before .pre)
 
 returns : tie.Need-returns
 unfolding joinedNumbers answerOf
-returns c = rw (c .before .answer .given .1)
+returns c = rw (c .before .before .answer .given .1) (c .refused .ensures)
 
 returns-2 : tie.Need-returns-2
 unfolding joinedNumbers answerOf
-returns-2 c = rw (c .before .answer2 .given .1)
+returns-2 c = rw (c .before .before .answer2 .given .1) (c .counted .ensures)
 
 pub fields-numbers-spec : {M : Type 1} → statement M
-fields-numbers-spec = tie.close (tie.spec enum-known-answer enum-known-answer-2 cast-t6 returns returns-2)
+fields-numbers-spec = tie.close (tie.spec enum-known-answer refused-requires enum-known-answer-2 counted-requires returns returns-2)
