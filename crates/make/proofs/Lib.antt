@@ -1,5 +1,4 @@
 -- The fills of a ground, the lanes before the first sweep, what a run of sweeps makes and leaves alone, and the field made.
-pub mod Grounds
 pub mod LanesMade
 pub mod Started
 pub mod FieldJoin

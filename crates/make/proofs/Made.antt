@@ -35,8 +35,8 @@ use Rattle.sweep.specs.Buffers as sweep
 use Rattle.row.specs.Buffers.{groundOf}
 use Rattle.sweep.specs.Buffers.{runOf, Stops}
 use Rattle.plainsweeps.proofs.RowLevels.{Holds}
-use Rattle.make.specs.Grounds.{unreachableLevels}
-use Rattle.make.specs.Versions.{never}
+use Rattle.grounds.specs.Grounds.{unreachableLevels}
+use Rattle.grounds.specs.Versions.{never}
 use Rattle.make.specs.Makes.{Versioned, Relaxed}
 use Rattle.make.proofs.LanesMade.{baseOf}
 use Rattle.make.proofs.Started.{Unpulled}

@@ -24,9 +24,9 @@ use Rattle.sweep.specs.Buffers as sweep
 use Rattle.row.specs.Buffers.{groundOf}
 use Rattle.sweep.specs.Buffers.{runOf, Stops}
 use Rattle.plan.specs.declared.site.Site.{Site}
-use Rattle.make.specs.Grounds.{unreachableLevels}
+use Rattle.grounds.specs.Grounds.{unreachableLevels}
 use Rattle.make.specs.Makes.{quietRows, Versioned, RelaxFits, Relaxed, lent, siteCall, MakeFits}
-use Rattle.make.proofs.Grounds.{limits}
+use Rattle.grounds.proofs.Grounds.{limits}
 use Rattle.make.proofs.Made as Made
 
 -- lanes that were made in the first n entries of a buffer: the entries past those stay

@@ -1,4 +1,2 @@
--- What a ground asks, version buffers, what sweeps ask and leave, and what making a field asks.
-pub mod Grounds
-pub mod Versions
+-- What sweeps ask and leave, and what making a field asks.
 pub mod Makes

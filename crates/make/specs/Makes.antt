@@ -12,8 +12,8 @@ use Rattle.sweep.specs.Sweeps.{Ended}
 use Rattle.row.specs.Buffers.{groundOf}
 use Rattle.sweep.specs.Buffers.{runOf, Window, Stops}
 use Rattle.plan.specs.declared.site.Site.{Site}
-use Rattle.make.specs.Grounds.{GroundFits, BeginFits}
-use Rattle.make.specs.Versions.{VersionBuffers, BeforeSweeps, AfterSweeps}
+use Rattle.grounds.specs.Grounds.{GroundFits, BeginFits}
+use Rattle.grounds.specs.Versions.{VersionBuffers, BeforeSweeps, AfterSweeps}
 
 -- the rows of the window above the sources
 abbrev pub quietRows : Site → ℕ

@@ -1,7 +1,6 @@
 // The field made: the ground, the start, the sweeps.
-pub mod ground;
-pub mod versions;
-
+use grounds::ground;
+use grounds::versions;
 use plan::site::Site;
 use sweep::run;
 use window::record;

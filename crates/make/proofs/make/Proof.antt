@@ -1,12 +1,12 @@
 -- `make::make`: the used part of the lanes is lent on, so the entries past it stay; the rest is what the ground, the start and the sweeps leave.
-use mathlib.Core.Path.{sym, ap}
+use mathlib.Core.Path.{sym, ap, _∙_}
 use Prim.Native.Nat.{ℕ, _*_, _≤_}
 use native.Mathlib.Omega.{arith}
 use lib.Seq.{length-take-le}
 use denote.Ref.{now}
 use borrow.Author.Needs.{needs}
 use Rattle.make.specs.Makes.{lent}
-use Rattle.make.proofs.Grounds.{limits, lanes-small}
+use Rattle.grounds.proofs.Grounds.{limits, lanes-small}
 use Rattle.make.proofs.SiteMade.{relax-fits, site-made}
 use Rattle.make.proofs.make.Statement.{statement}
 use Rattle.make.proofs.make.Tie as tie
@@ -55,29 +55,29 @@ relax-requires c κs =
     let started = c .before .before .before .before .before .before .before .before .begin .last .1 .1 .0 in
     let rows = c .before .before .before .before .before .before .before .before .begin .last .1 .1 .1 .1 .0 in
     relax-fits s (now (a .cells)) (now (a .blockers)) (now (a .resources)) (lent (now (a .lanes)) (now (a .walk)) (now (a .flags)) (now (a .rows)) (now (a .versions)) (now (a .pulled-down)) (now (a .pulled-up))) (c .before .before .before .before .before .before .before .before .before .before .before .before .before .before .before .before .before .before .before .before .before .before .before .before .before .before .before .before .before .before .pre) walk flags rows n started
-    (omega arith) (omega arith) (omega arith) (ap (λ (k : ℕ). k * s .window .lanes) (c .before .before .before .before .before .before .before .before .before .before .before .before .before .before .before .before .before .before .before .before .before .padded .ensures)) (omega arith)
+    (c .before .before .before .before .before .before .before .before .before .before .before .before .before .before .before .before .ground .kept .1 .1 .1 .0) (c .before .before .before .before .before .before .before .before .before .before .before .before .before .before .before .before .ground .kept .1 .1 .1 .1 .0) (c .before .before .before .before .before .before .before .before .begin .kept .1 .1 .1 .1 .0) (ap (λ (k : ℕ). k * s .window .lanes) (c .before .before .before .before .before .before .before .before .before .before .before .before .before .before .before .before .before .before .before .before .before .padded .ensures)) (c .before .before .before .before .before .before .before .before .begin .kept .1 .1 .0)
     (c .before .before .before .before .before .before .before .before .before .before .before .before .before .before .before .before .ground .ensures .0) (c .before .before .before .before .before .before .before .before .before .before .before .before .before .before .before .before .ground .ensures .1) (c .before .before .before .before .before .before .before .before .begin .ensures .0) (c .before .before .before .before .before .before .before .before .begin .ensures .1)
 
 same-length : tie.Need-same-length
 same-length c = search needs
 
 same-length-2 : tie.Need-same-length-2
-same-length-2 c = search needs
+same-length-2 c = c .before .before .before .before .before .before .before .before .before .before .before .before .before .before .before .before .before .before .before .before .before .before .before .before .ground .kept .1 .1 .1 .0
 
 same-length-3 : tie.Need-same-length-3
-same-length-3 c = search needs
+same-length-3 c = c .before .before .before .before .before .before .before .before .before .before .before .before .before .before .before .before .before .before .before .before .before .before .before .before .ground .kept .1 .1 .1 .1 .0
 
 same-length-4 : tie.Need-same-length-4
-same-length-4 c = search needs
+same-length-4 c = c .before .before .before .before .before .before .before .before .before .before .before .before .before .before .before .before .begin .kept .1 .1 .1 .1 .0
 
 same-length-5 : tie.Need-same-length-5
-same-length-5 c = search needs
+same-length-5 c = c .before .before .before .before .before .before .before .relax .kept .1 .1 .1 .1 .0
 
 same-length-6 : tie.Need-same-length-6
-same-length-6 c = search needs
+same-length-6 c = c .before .before .before .before .before .before .before .relax .kept .1 .1 .1 .1 .1 .0
 
 same-length-7 : tie.Need-same-length-7
-same-length-7 c = search needs
+same-length-7 c = c .before .before .before .before .before .before .before .relax .kept .1 .1 .1 .1 .1 .1 .0
 
 returns : tie.Need-returns
 returns c =
@@ -89,10 +89,10 @@ returns c =
     let started = c .before .before .before .before .before .before .before .before .before .before .before .before .before .before .before .before .begin .last .1 .1 .0 in
     let rows = c .before .before .before .before .before .before .before .before .before .before .before .before .before .before .before .before .begin .last .1 .1 .1 .1 .0 in
     site-made s (now (a .cells)) (now (a .blockers)) (now (a .resources)) (lent (now (a .lanes)) (now (a .walk)) (now (a .flags)) (now (a .rows)) (now (a .versions)) (now (a .pulled-down)) (now (a .pulled-up))) (c .before .before .before .before .before .before .before .before .before .before .before .before .before .before .before .before .before .before .before .before .before .before .before .before .before .before .before .before .before .before .before .before .before .before .before .before .before .before .pre) walk flags rows n started
-    (omega arith) (omega arith) (omega arith) (ap (λ (k : ℕ). k * s .window .lanes) (c .before .before .before .before .before .before .before .before .before .before .before .before .before .before .before .before .before .before .before .before .before .before .before .before .before .before .before .before .before .padded .ensures)) (omega arith)
+    (c .before .before .before .before .before .before .before .before .before .before .before .before .before .before .before .before .before .before .before .before .before .before .before .before .ground .kept .1 .1 .1 .0) (c .before .before .before .before .before .before .before .before .before .before .before .before .before .before .before .before .before .before .before .before .before .before .before .before .ground .kept .1 .1 .1 .1 .0) (c .before .before .before .before .before .before .before .before .before .before .before .before .before .before .before .before .begin .kept .1 .1 .1 .1 .0) (ap (λ (k : ℕ). k * s .window .lanes) (c .before .before .before .before .before .before .before .before .before .before .before .before .before .before .before .before .before .before .before .before .before .before .before .before .before .before .before .before .before .padded .ensures)) (c .before .before .before .before .before .before .before .before .before .before .before .before .before .before .before .before .begin .kept .1 .1 .0)
     (c .before .before .before .before .before .before .before .before .before .before .before .before .before .before .before .before .before .before .before .before .before .before .before .before .ground .ensures .0) (c .before .before .before .before .before .before .before .before .before .before .before .before .before .before .before .before .before .before .before .before .before .before .before .before .ground .ensures .1) (c .before .before .before .before .before .before .before .before .before .before .before .before .before .before .before .before .begin .ensures .0) (c .before .before .before .before .before .before .before .before .before .before .before .before .before .before .before .before .begin .ensures .1)
     (c .before .before .before .before .before .before .before .relax .last .1 .0) (c .before .before .before .before .before .before .before .relax .last .1 .1 .1 .1 .0) (c .before .before .before .before .before .before .before .relax .last .1 .1 .1 .1 .1 .0) (c .before .before .before .before .before .before .before .relax .last .1 .1 .1 .1 .1 .1 .0) (c .before .before .before .before .before .before .before .relax .result)
-    (omega arith) (omega arith) (omega arith) (omega arith) (c .before .before .before .before .before .before .before .relax .ensures)
+    (c .before .before .before .before .before .before .before .relax .kept .1 .0 ∙ c .before .before .before .before .before .before .before .before .before .before .before .before .before .before .before .before .begin .kept .1 .1 .0) (c .before .before .before .before .before .before .before .relax .kept .1 .1 .1 .1 .0) (c .before .before .before .before .before .before .before .relax .kept .1 .1 .1 .1 .1 .0) (c .before .before .before .before .before .before .before .relax .kept .1 .1 .1 .1 .1 .1 .0) (c .before .before .before .before .before .before .before .relax .ensures)
 
 pub make-spec : {M : Type 1} → statement M
 make-spec =

@@ -1,0 +1,3 @@
+-- What a ground asks, and version buffers.
+pub mod Grounds
+pub mod Versions

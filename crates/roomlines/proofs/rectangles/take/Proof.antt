@@ -1,0 +1,53 @@
+-- `roomlines::rectangles::take`: what was read is stored.
+use borrow.Author.Needs.{needs}
+use mir.Syntax.{w32}
+use mir.ValLaws.{toZ-ofZ}
+use Rattle.roomlines.specs.Fours.{FourAt, takes-four, numbersOf}
+use Rattle.roomlines.specs.Answers.{fourFound, lineTaken}
+use Rattle.roomlines.proofs.Corners.{signed-fits}
+use Rattle.roomlines.proofs.Stored.{four-at, four-room, take-none}
+use Rattle.roomlines.proofs.rectangles.take.Statement.{statement}
+use Rattle.roomlines.proofs.rectangles.take.Tie as tie
+
+four-requires : tie.Need-four-requires
+four-requires c κs = search needs
+
+enum-known-found : tie.Need-enum-known-found
+enum-known-found c = search needs
+
+enum-told : tie.Need-enum-told
+enum-told c = search needs
+
+returns : tie.Need-returns
+unfolding fourFound lineTaken
+returns c = take-none (rw (c .enum-told .given .1) at (c .before .before .four .ensures))
+
+-- the four numbers that were read
+read : (c : tie.After-known-told) → FourAt (c .before .before .before .before .before .args .text .now) (c .before .before .before .before .before .args .at) (record { left = c .before .found .given .0 .0; top = c .before .found .given .0 .1 .0; right = c .before .found .given .0 .1 .1 .0; bottom = c .before .found .given .0 .1 .1 .1 .0 }) (c .before .found .given .0 .1 .1 .1 .1 .0)
+unfolding fourFound
+read c = four-at (rw (c .before .found .given .1) at (c .before .before .before .four .ensures))
+
+store-requires : tie.Need-store-requires
+store-requires c κs = four-room (read (c .before)) (c .before .before .before .before .before .before .pre)
+
+same-length : tie.Need-same-length
+same-length c = search needs
+
+returns-2 : tie.Need-returns-2
+unfolding lineTaken numbersOf
+returns-2 c =
+    let g = c .before .before .before .before .found .given .0 in
+    let a = read (c .before .before .before) in
+    takes-four a (rw (toZ-ofZ w32 (g .0) (signed-fits (a .fits .left)), toZ-ofZ w32 (g .1 .0) (signed-fits (a .fits .top)), toZ-ofZ w32 (g .1 .1 .0) (signed-fits (a .fits .right)), toZ-ofZ w32 (g .1 .1 .1 .0) (signed-fits (a .fits .bottom))) at (c .before .store .ensures))
+
+pub take-spec : {M : Type 1} → statement M
+take-spec =
+    tie.close
+    (tie.spec
+    four-requires
+    enum-known-found
+    enum-told
+    returns
+    store-requires
+    same-length
+    returns-2)

@@ -1,0 +1,3 @@
+pub mod Fours
+pub mod Forms
+pub mod Answers

@@ -1,0 +1,131 @@
+// The rows of a map: `.` is walkable and `#` is not, all rows have one length.
+use roomlines::counts;
+use roomlines::counts::FoundCount;
+use textlines;
+use textlines::FoundLine;
+ghost use mathlib.Core.Path.{_≡_};
+ghost use mathlib.Core.List.{map};
+ghost use Prim.Native.Nat.{_+_, _≤_, _<_};
+ghost use lib.ListN.{length, take, drop};
+ghost use lib.Seq.{sets};
+ghost use Rattle.textlines.specs.Lines.{LineAt};
+ghost use Rattle.roomrows.specs.Rows.{isCell, cellOf, JudgesRow, TakesRows, CellsFit, TakesGrid};
+ghost use Rattle.roomrows.specs.Answers.{rowsFound, gridFound};
+
+// The width of rows and the place after them, or how many of them stand before the line that breaks their form.
+pub enum FoundRows {
+    Rows(usize, usize),
+    Broken(usize),
+}
+
+// The width and the height of a map and the place after it, or how many of its lines stand before the one that breaks its form.
+pub enum FoundGrid {
+    Grid(usize, usize, usize),
+    Broken(usize),
+}
+
+// A byte of a row.
+fn is_cell(byte: u8) -> bool
+    ensures { λ r. ⌜ r ≡ isCell byte ⌝ }
+{
+    if byte == b'.' {
+        return true;
+    }
+    byte == b'#'
+}
+
+// The cell that a byte of a row stands for.
+fn cell(byte: u8) -> u8
+    ensures { λ r. ⌜ r ≡ cellOf byte ⌝ }
+{
+    if byte == b'.' {
+        return 1;
+    }
+    0
+}
+
+// A row of that width stands at a place, ended by LF.
+fn is_row(text: &[u8], at: usize, width: usize) -> bool
+    requires { ⌜ at ≤ length (now text) ⌝ }
+    ensures { λ r. ⌜ JudgesRow (now (text .entry)) at width r ⌝ }
+{
+    if text.len() - at <= width {
+        return false;
+    }
+    if text[at + width] != b'\n' {
+        return false;
+    }
+    let mut k: usize = 0;
+    while k < width {
+        if !is_cell(text[at + k]) {
+            return false;
+        }
+        k += 1;
+    }
+    true
+}
+
+// Stores the cells of a row from a place on.
+fn store(text: &[u8], at: usize, width: usize, cells: &mut [u8], place: usize)
+    requires { ⌜ (at + width ≤ length (now text)) × (place + width ≤ length (now cells)) ⌝ }
+    ensures { λ _. ⌜ now (cells .exit) ≡ sets (now (cells .entry)) place (map cellOf (take width (drop at (now (text .entry))))) ⌝ }
+{
+    for k in 0..width {
+        cells[place + k] = cell(text[at + k]);
+    }
+}
+
+// Reads so many rows of that width, which the first line has, and stores their cells.
+fn rows_of(text: &[u8], at: usize, count: usize, width: usize, cells: &mut [u8]) -> FoundRows
+    requires { ⌜ CellsFit (now text) at (now cells) × LineAt (now text) at (at + width) × (0 < width) ⌝ }
+    ensures { λ r. ⌜ TakesRows (now (text .entry)) at count (now (cells .entry)) (now (cells .exit)) (rowsFound r) ⌝ }
+{
+    let mut from = at;
+    let mut to: usize = 0;
+    let mut passed: usize = 0;
+    while passed < count {
+        if !is_row(text, from, width) {
+            return FoundRows::Broken(passed);
+        }
+        store(text, from, width, cells, to);
+        from = from + width + 1;
+        to += width;
+        passed += 1;
+    }
+    FoundRows::Rows(width, from)
+}
+
+// Reads so many rows and stores their cells.
+pub fn rows(text: &[u8], at: usize, count: usize, cells: &mut [u8]) -> FoundRows
+    requires { ⌜ CellsFit (now text) at (now cells) × (0 < count) ⌝ }
+    ensures { λ r. ⌜ TakesRows (now (text .entry)) at count (now (cells .entry)) (now (cells .exit)) (rowsFound r) ⌝ }
+{
+    let line = textlines::line_end(text, at);
+    let FoundLine::Ends(end) = line else {
+        return FoundRows::Broken(0);
+    };
+    if end == at {
+        return FoundRows::Broken(0);
+    }
+    rows_of(text, at, count, end - at, cells)
+}
+
+// Reads the section of rows, their count and then the rows, and stores their cells.
+pub fn grid(text: &[u8], at: usize, cells: &mut [u8]) -> FoundGrid
+    requires { ⌜ CellsFit (now text) at (now cells) ⌝ }
+    ensures { λ r. ⌜ TakesGrid (now (text .entry)) at (now (cells .entry)) (now (cells .exit)) (gridFound r) ⌝ }
+{
+    let number = counts::count(text, at, 1, 2147483647);
+    let FoundCount::Count(height, first) = number else {
+        return FoundGrid::Broken(0);
+    };
+    let lines = rows(text, first, height, cells);
+    match lines {
+        FoundRows::Rows(width, past) => {
+            return FoundGrid::Grid(width, height, past);
+        }
+        FoundRows::Broken(passed) => {
+            return FoundGrid::Broken(passed + 1);
+        }
+    }
+}

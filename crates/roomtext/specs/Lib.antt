@@ -1,0 +1,4 @@
+pub mod Room
+pub mod Readings
+pub mod Verdicts
+pub mod Answers
