@@ -36,7 +36,7 @@ rows-most width test x columns y zero = omega arith
 rows-most width test x columns y (suc n) =
     omega (arith, rows-most width test x columns (suc y) n, row-most width test y x columns, length-append (placesInRow width test y x columns) (placesInRows width test x columns (suc y) n), suc-mul n columns)
 
-access-most : (w h : ℕ) (cells : List ℕ) (r : Rectangle) → 1 ≤ w → 1 ≤ h → length (accessCells w h cells r) ≤ h * w
+pub access-most : (w h : ℕ) (cells : List ℕ) (r : Rectangle) → 1 ≤ w → 1 ≤ h → length (accessCells w h cells r) ≤ h * w
 unfolding accessCells ringBox
 access-most w h cells r i j =
     let b = ringBox w h r in

@@ -1,3 +1,2 @@
--- The exports' promises determine what they give back, and its numbers are small.
-pub mod Bounds
+-- The exports' promises determine what they give back.
 pub mod Exports

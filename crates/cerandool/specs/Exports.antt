@@ -1,47 +1,43 @@
--- What the static library's exports give back: document 01's numbers for each case.
+-- What the static library's exports give back: the promise of the library's own call, of an answer in document 01's numbers.
 use mathlib.Core.Path.{_≡_}
-use Prim.Native.Nat.{ℕ, _≤_}
+use mathlib.Core.List.{List}
+use Prim.Native.Nat.{ℕ}
+use lib.IntN.{ℤ}
 use Rattle.walkgraph.specs.Buffers.{Lent}
+use Rattle.walkgraph.specs.Painting.{Rectangle}
 use Rattle.walkgraph.specs.Reading.{WindowRecord}
 use Rattle.walkgraph.specs.Refusals.{FieldInput}
-use Rattle.walkgraph.specs.Promise.{FieldAnswer, refusal, made, FieldPromise}
-use Rattle.cerandool.specs.declared.FieldAnswer as code
+use Rattle.walkgraph.specs.Promise.{FieldAnswer, FieldPromise}
+use Rattle.walkgraph.specs.AccessPromise.{AccessAnswer, AccessPromise}
+use Rattle.walkgraph.specs.FieldsPromise.{JoinInput, JoinLent, JoinAnswer, FieldsPromise}
+use Rattle.accesslists.specs.AccessListsPromise.{ListsLent, AccessListsPromise}
+use Rattle.numbers.specs.declared.FieldAnswer as code
+use Rattle.numbers.specs.declared.CountAnswer.{CountAnswer}
+use Rattle.numbers.specs.Numbers.{numbersOf, listedNumbers, joinedNumbers}
 
--- "A refusal returns number and place"; else "Window left, top, width, height", the lanes of a cell, and "sweep count". What a case does not have is 0.
-unfoldable pub numbersOf : FieldAnswer → code.FieldAnswer
-numbersOf (refusal number place) = record { number = number; place = place; left = 0; top = 0; width = 0; height = 0; lanes = 0; sweeps = 0 }
-numbersOf (made window sweeps) =
-    record {
-      number = 0;
-      place = 0;
-      left = window .left;
-      top = window .top;
-      width = window .width;
-      height = window .height;
-      lanes = window .lanes;
-      sweeps = sweeps;
-    }
-
--- the numbers of an accepted call's answer are u32s
-pub record Small (window : WindowRecord) (sweeps : ℕ) : Type 0 where
-  pub left : window .left ≤ 4294967295
-  pub top : window .top ≤ 4294967295
-  pub width : window .width ≤ 4294967295
-  pub height : window .height ≤ 4294967295
-  pub lanes : window .lanes ≤ 4294967295
-  pub count : sweeps ≤ 4294967295
-
--- an answer whose numbers are u32s; those of a refusal are from the start
-unfoldable pub InU32 : FieldAnswer → Type 0
-InU32 (refusal number place) = Unit {0}
-InU32 (made window sweeps) = Small window sweeps
-
--- "Each public function has a promise, and it determines the answer and the final content of each lent buffer on every input": the field call's, of an answer in
--- numbers
+-- "Each public function has a promise, and it determines the answer and the final content of each lent buffer on every input": the field call's
 pub record FieldExported (reach : ℕ) (i : FieldInput) (before after : Lent) (r : code.FieldAnswer) : Type 0 where
   pub answer : FieldAnswer
   pub promise : FieldPromise reach i before after answer
   pub numbers : r ≡ numbersOf answer
+
+-- that of access of a rectangle
+pub record AccessExported (width height : ℕ) (cells : List ℕ) (rectangle : Rectangle) (before after : List ℕ) (r : CountAnswer) : Type 0 where
+  pub answer : AccessAnswer
+  pub promise : AccessPromise width height cells rectangle before after answer
+  pub numbers : r ≡ listedNumbers answer
+
+-- that of access of many rectangles
+pub record AccessListsExported (width height : ℕ) (cells : List ℕ) (rectangles : List ℤ) (before after : ListsLent) (r : CountAnswer) : Type 0 where
+  pub answer : AccessAnswer
+  pub promise : AccessListsPromise width height cells rectangles before after answer
+  pub numbers : r ≡ listedNumbers answer
+
+-- the fields call's
+pub record FieldsExported (i : JoinInput) (before after : JoinLent) (r : CountAnswer) : Type 0 where
+  pub answer : JoinAnswer
+  pub promise : FieldsPromise i before after answer
+  pub numbers : r ≡ joinedNumbers answer
 
 -- "Window left, top, width, height", and the lanes of a cell, as numbers that the caller may have made up
 abbrev pub recordFrom : (left top width height lanes : ℕ) → WindowRecord

@@ -1,6 +1,11 @@
-// The static library's exports, for C and for Rust: the field call, and reading a cell. Neither requires anything of what it is given.
+// The static library's exports, for C and for Rust: the field call, reading a cell, access of a rectangle and of many, and the fields call. None requires anything of what it is given.
+use access;
+use accesslists;
 use field;
-use field::Answer;
+use fields;
+use numbers;
+use numbers::CountAnswer;
+use numbers::FieldAnswer;
 use reading;
 use reading::Part;
 use window::record::Window;
@@ -12,51 +17,10 @@ ghost use Rattle.rings.specs.Rings.{corners};
 ghost use Rattle.plan.specs.Plans.{inputOf};
 ghost use Rattle.make.specs.Makes.{lent};
 ghost use Rattle.reading.specs.Parts.{asPart};
-ghost use Rattle.field.specs.Answers.{answerOf};
-ghost use Rattle.cerandool.specs.Exports.{numbersOf, InU32, FieldExported, recordFrom};
-
-// What a field call leads to. Where it is accepted, number and place are 0, and the window with its lanes and the
-// sweep count follow. Where it is refused, number and place are the table's, and the rest is 0.
-#[repr(C)]
-pub struct FieldAnswer {
-    pub number: u32,
-    pub place: u32,
-    pub left: u32,
-    pub top: u32,
-    pub width: u32,
-    pub height: u32,
-    pub lanes: u32,
-    pub sweeps: u32,
-}
-
-// The eight numbers of an answer.
-fn numbers(answer: Answer) -> FieldAnswer
-    requires { ⌜ InU32 (answerOf answer) ⌝ }
-    ensures { λ r. ⌜ r ≡ numbersOf (answerOf answer) ⌝ }
-{
-    match answer {
-        Answer::Refused { number, place } => FieldAnswer {
-            number,
-            place,
-            left: 0,
-            top: 0,
-            width: 0,
-            height: 0,
-            lanes: 0,
-            sweeps: 0,
-        },
-        Answer::Made { window, sweeps } => FieldAnswer {
-            number: 0,
-            place: 0,
-            left: window.left as u32,
-            top: window.top as u32,
-            width: window.width as u32,
-            height: window.height as u32,
-            lanes: window.lanes as u32,
-            sweeps: sweeps as u32,
-        },
-    }
-}
+ghost use Rattle.seeds.specs.Sown as sown;
+ghost use Rattle.fields.specs.Answers as fields;
+ghost use Rattle.accesslists.specs.Listing as lists;
+ghost use Rattle.cerandool.specs.Exports.{FieldExported, recordFrom, AccessExported, AccessListsExported, FieldsExported};
 
 // The field of resources around a target box, on a map of walk cells painted with blockers.
 #[no_mangle]
@@ -102,7 +66,7 @@ pub extern "C" fn cerandool_field(
         pulled_down,
         pulled_up,
     );
-    numbers(answer)
+    numbers::field_numbers(answer)
 }
 
 // The part of the lent lanes that belongs to the map's cell (x, y), by a window record that the caller may have made up.
@@ -127,4 +91,72 @@ pub extern "C" fn cerandool_at(
         lanes: lanes as usize,
     };
     reading::cell_part(window, lane_values.len(), x as usize, y as usize)
+}
+
+// Access of a rectangle: the indices of its access cells by row, then column, and how many there are.
+#[no_mangle]
+pub extern "C" fn cerandool_access(
+    width: u32,
+    height: u32,
+    cells: &[u8],
+    left: i32,
+    top: i32,
+    right: i32,
+    bottom: i32,
+    out: &mut [u32],
+) -> CountAnswer
+    ensures { λ r. ⌜ AccessExported width height (now (cells .entry)) (corners left top right bottom) (now (out .entry)) (now (out .exit)) r ⌝ }
+{
+    let answer = access::call::access(width, height, cells, left, top, right, bottom, out);
+    numbers::access_numbers(answer)
+}
+
+// Access of many rectangles: the indices of the access cells of the first, then of the next, for each how many stand before the end of its own, and how many there are.
+#[no_mangle]
+pub extern "C" fn cerandool_access_lists(
+    width: u32,
+    height: u32,
+    cells: &[u8],
+    rectangles: &[i32],
+    indices: &mut [u32],
+    ends: &mut [u32],
+) -> CountAnswer
+    ensures { λ r. ⌜ AccessListsExported width height (now (cells .entry)) (now (rectangles .entry))
+        (lists.lent (now (indices .entry)) (now (ends .entry))) (lists.lent (now (indices .exit)) (now (ends .exit))) r ⌝ }
+{
+    let answer = accesslists::call::access_lists(width, height, cells, rectangles, indices, ends);
+    numbers::lists_numbers(answer)
+}
+
+// Fields of resources: the number of each resource's field, by its smallest member, and how many fields there are.
+#[no_mangle]
+pub extern "C" fn cerandool_fields(
+    width: u32,
+    height: u32,
+    cells: &[u8],
+    indices: &[u32],
+    ends: &[u32],
+    states: &mut [u16],
+    queue: &mut [u32],
+    parents: &mut [u16],
+    ranks: &mut [u8],
+    answers: &mut [u16],
+) -> CountAnswer
+    ensures { λ r. ⌜ FieldsExported (sown.inputOf width height (now (cells .entry)) (now (indices .entry)) (now (ends .entry)))
+        (fields.lent (now (states .entry)) (now (queue .entry)) (now (parents .entry)) (now (ranks .entry)) (now (answers .entry)))
+        (fields.lent (now (states .exit)) (now (queue .exit)) (now (parents .exit)) (now (ranks .exit)) (now (answers .exit))) r ⌝ }
+{
+    let answer = fields::call::fields(
+        width,
+        height,
+        cells,
+        indices,
+        ends,
+        states,
+        queue,
+        parents,
+        ranks,
+        answers,
+    );
+    numbers::fields_numbers(answer)
 }

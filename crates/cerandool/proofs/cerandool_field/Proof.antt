@@ -13,7 +13,7 @@ use Rattle.cells.specs.Boxes.{reach}
 use Rattle.rings.specs.Rings.{corners}
 use Rattle.plan.specs.Plans.{inputOf}
 use Rattle.make.specs.Makes.{lent}
-use Rattle.cerandool.proofs.Bounds.{in-u32}
+use Rattle.numbers.proofs.Bounds.{in-u32}
 use Rattle.cerandool.proofs.cerandool_field.Statement.{statement}
 use Rattle.cerandool.proofs.cerandool_field.Tie as tie
 
@@ -37,14 +37,20 @@ as-given : (b : tie.Start) {after : Lent} {answer : FieldAnswer} →
     FieldPromise reach (given b) (before b) after answer
 as-given b p = rw (toZ-ofZ w32 (b .args .left) (b .fits .left), toZ-ofZ w32 (b .args .top) (b .fits .top), toZ-ofZ w32 (b .args .right) (b .fits .right), toZ-ofZ w32 (b .args .bottom) (b .fits .bottom)) at p
 
+-- what the call left
+abbrev after : tie.After-field → Lent
+after f =
+    let l = f .field .last .1 .1 .1 .1 .1 .1 .1 .1 .1 .1 in
+    lent (l .0) (l .1 .0) (l .1 .1 .0) (l .1 .1 .1 .0) (l .1 .1 .1 .1 .0) (l .1 .1 .1 .1 .1 .0) (l .1 .1 .1 .1 .1 .1 .0)
+
 field-requires : tie.Need-field-requires
 field-requires c κs = search needs
 
-numbers-requires : tie.Need-numbers-requires
-numbers-requires c κs =
+field-numbers-requires : tie.Need-field-numbers-requires
+field-numbers-requires c κs =
     let f = c .before .before .before .before .before .before .before .before .before .before .before .before .before in
     let b = f .before .before .before .before .before .before .before .before .before .before .before .before .before .before .before in
-    in-u32 (given b) (before b) (omega (arith, b .fits .lanes)) (as-given b (f .field .ensures))
+    in-u32 (given b) (before b) {after = after f} (omega (arith, b .fits .lanes)) (as-given b {after = after f} (f .field .ensures))
 
 same-length : tie.Need-same-length
 same-length c = c .before .before .before .before .before .before .before .before .before .before .before .before .before .before .field .kept .1 .1 .1 .1 .1 .1 .1 .1 .1 .1 .0
@@ -71,14 +77,14 @@ returns : tie.Need-returns
 returns c =
     let f = c .before .before .before .before .before .before .before .before .before .before .before .before .before .before in
     let b = f .before .before .before .before .before .before .before .before .before .before .before .before .before .before .before in
-    record { answer = _; promise = as-given b (f .field .ensures); numbers = c .numbers .ensures }
+    record { answer = _; promise = as-given b {after = after f} (f .field .ensures); numbers = c .field-numbers .ensures }
 
 pub cerandool-field-spec : {M : Type 1} → statement M
 cerandool-field-spec =
     tie.close
     (tie.spec
     field-requires
-    numbers-requires
+    field-numbers-requires
     same-length
     same-length-2
     same-length-3

@@ -1,10 +1,10 @@
--- `cerandool::numbers`: each case gives its own numbers, and those that are cast are u32s.
+-- `numbers::field_numbers`: each case gives its own numbers, and those that are cast are u32s.
 use borrow.Author.Needs.{needs}
 use Rattle.window.specs.Windows.{asRecord}
 use Rattle.field.specs.Answers.{answerOf}
-use Rattle.cerandool.specs.Exports.{numbersOf, Small, InU32}
-use Rattle.cerandool.proofs.numbers.Statement.{statement}
-use Rattle.cerandool.proofs.numbers.Tie as tie
+use Rattle.numbers.specs.Numbers.{numbersOf, Small, InU32}
+use Rattle.numbers.proofs.field_numbers.Statement.{statement}
+use Rattle.numbers.proofs.field_numbers.Tie as tie
 
 enum-known-answer : tie.Need-enum-known-answer
 enum-known-answer c = search needs
@@ -43,5 +43,5 @@ returns-2 : tie.Need-returns-2
 unfolding numbersOf answerOf
 returns-2 c = rw (c .before .before .before .before .before .before .answer2 .given .1)
 
-pub numbers-spec : {M : Type 1} → statement M
-numbers-spec = tie.close (tie.spec enum-known-answer enum-known-answer-2 cast-t7 cast-t8 cast-t9 cast-t10 cast-t11 cast-t12 returns returns-2)
+pub field-numbers-spec : {M : Type 1} → statement M
+field-numbers-spec = tie.close (tie.spec enum-known-answer enum-known-answer-2 cast-t7 cast-t8 cast-t9 cast-t10 cast-t11 cast-t12 returns returns-2)

@@ -1,0 +1,76 @@
+-- The counts of the other calls' answers are u32s: a ring has no more cells than the map, and there are no more fields than resources.
+use mathlib.Core.List.{List}
+use Prim.Native.Nat.{ℕ, zero, suc, _-_, _/_, _≤_, _<_}
+use native.Mathlib.Nat.{mul-le-mul}
+use native.Mathlib.Decide.{decLe, ℕ-discrete}
+use native.Mathlib.Omega.{arith}
+use lib.ListN.{length}
+use lib.IntN.{ℤ}
+use borrow.Author.Tests.{ltb-false}
+use Rattle.walkgraph.specs.Painting.{Rectangle}
+use Rattle.walkgraph.specs.Links.{Joined, Numbered}
+use Rattle.walkgraph.specs.Refusals.{accessVerdict, joinVerdict}
+use Rattle.walkgraph.specs.AccessPromise.{AccessAnswer, AccessPromise}
+use Rattle.walkgraph.specs.AccessPromise as access
+use Rattle.walkgraph.specs.FieldsPromise.{JoinInput, JoinLent, JoinAnswer, fieldsVerdict, AnswersAre, FieldsPromise, refuses, joins}
+use Rattle.walkgraph.proofs.Tests.{by-cases}
+use Rattle.walkgraph.proofs.Numbering.{seek}
+use Rattle.judge.proofs.Accepted.{grid}
+use Rattle.judge.proofs.Judging.{accepted-parts}
+use Rattle.accesslists.specs.AccessListsPromise.{ListsLent, AccessListsPromise}
+use Rattle.accesslists.specs.AccessListsPromise as lists
+use Rattle.accesslists.proofs.Rectangles.{access-most}
+use Rattle.accesslists.proofs.AllCells.{all-most}
+use Rattle.accesslists.proofs.Verdicts.{all-fit}
+use Rattle.numbers.specs.Numbers.{ListedInU32, JoinedInU32}
+
+-- ---- access of a rectangle: at most 1,048,576 cells
+pub access-in-u32 : (w h : ℕ) (cells : List ℕ) (r : Rectangle) (before : List ℕ) {after : List ℕ} {a : AccessAnswer} → AccessPromise w h cells r before after a → ListedInU32 a
+unfolding ListedInU32 accessVerdict
+access-in-u32 w h cells r before (access.refuses e) = tt
+access-in-u32 w h cells r before (access.lists e) =
+    let g = grid w h cells (accepted-parts _ _ _ _ e .0) in
+    omega (arith, access-most w h cells r (g .across .some) (g .along .some), mul-le-mul (g .along .most) (g .across .most))
+
+-- ---- access of many rectangles: at most 512 times as many
+pub lists-in-u32 : (w h : ℕ) (cells : List ℕ) (l : List ℤ) (before : ListsLent) {after : ListsLent} {a : AccessAnswer} → AccessListsPromise w h cells l before after a → ListedInU32 a
+unfolding ListedInU32
+lists-in-u32 w h cells l before (lists.refuses e) = tt
+lists-in-u32 w h cells l before (lists.lists e) =
+    let fit = all-fit w h cells l (length (before .indices)) (length (before .ends)) e in
+    omega (arith, all-most w h cells l (fit .judged) (length l / 4) (omega arith))
+
+-- ---- fields: at most 512
+module _ {Link : ℕ → ℕ → Type 0} {n : ℕ} {f : ℕ → ℕ} (p : Numbered Link n f) where
+  -- where no earlier resource has a number above its own place, the next one has none
+  number-next : (m : ℕ) → m < n → ((s : ℕ) → s < m → f s ≤ s) → f m ≤ m
+  number-next m h ih =
+      by-cases (seek f (f m) m)
+      (λ t. omega (arith, t .1, t .2, ih (t .0) (t .1)))
+      (λ o.
+      let first : (s : ℕ) → s < m → ¬ (Joined Link s m) = λ s l j. o (s, l, p .only s m (omega arith) h j) in
+      by-cases (decLe (f m) 0)
+      (λ z. omega arith)
+      (λ z. let t = p .new m h first (f m - 1) (omega arith) in omega (arith, t .1, t .2, ih (t .0) (t .1))))
+
+  number-most : (m : ℕ) → m ≤ n → (r : ℕ) → r < m → f r ≤ r
+  number-most zero h r i = absurd (omega arith)
+  number-most (suc m) h r i =
+      let ih = number-most m (omega arith) in
+      by-cases (ℕ-discrete r m) (λ e. rw e (number-next m (omega arith) ih)) (λ e. ih r (omega arith))
+
+-- no more fields than resources: the last number would be above its place
+count-most : {i : JoinInput} {before after : List ℕ} {count : ℕ} → AnswersAre i before after count → count ≤ length (i .ends)
+count-most {i} {before} {after} {count} a =
+    by-cases (decLe count (length (i .ends)))
+    (λ h. h)
+    (λ h.
+    let t = a .used (length (i .ends)) (omega arith) in
+    absurd (omega (arith, t .1, t .2, number-most (a .numbered) (length (i .ends)) (omega arith) (t .0) (t .1))))
+
+pub joined-in-u32 : (i : JoinInput) (before : JoinLent) {after : JoinLent} {a : JoinAnswer} → FieldsPromise i before after a → JoinedInU32 a
+unfolding JoinedInU32 fieldsVerdict joinVerdict
+joined-in-u32 i before (refuses e) = tt
+joined-in-u32 i before (joins e made) =
+    let few = ltb-false 512 (length (i .ends)) (accepted-parts _ _ _ _ (accepted-parts _ _ _ _ e .1) .0) in
+    omega (arith, count-most (made .answers))
