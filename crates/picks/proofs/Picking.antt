@@ -9,7 +9,7 @@ use lib.Dec.{T}
 use lib.ListN.{getD, length, set, length-set}
 use lib.Seq.{getD-set-same, getD-set-other}
 use Rattle.walkgraph.proofs.Tests.{by-cases}
-use Rattle.picks.specs.Picks.{one, Picked}
+use Rattle.picks.specs.Picks.{one, Picked, Kept, left-out, put}
 
 pub one-yes : (b : Bool) → b ≡ true → one b ≡ 1
 unfolding one
@@ -71,3 +71,19 @@ picked-on {test} {m} {list} {count} p h b e = record { long = simp length-set (p
         by-cases (ℕ-discrete k m)
         (λ i. (count, new b e (rw i at t), here ∙ sym i))
         (λ n. let r = p .every k (omega arith) t in (r .0, omega (arith, more b, r .1), kept (r .0) (r .1) ∙ r .2))
+
+-- the next number is not written where it does not pass
+picked-past : {test : ℕ → Bool} {m : ℕ} {list : List ℕ} {count : ℕ} → Picked test m list count → test m ≡ false → Picked test (m + 1) list count
+picked-past {test} {m} p e =
+    record {
+      long = p .long;
+      few = omega (arith, p .few);
+      only = λ j h. let t = p .only j h in (omega (arith, t .0), t .1);
+      every = λ k h t. by-cases (ℕ-discrete k m) (λ i. absurd (rw (i, e) at t)) (λ n. p .every k (omega arith) t);
+    }
+
+pub picked-keep : {test : ℕ → Bool} {m : ℕ} {list list′ : List ℕ} {count count′ : ℕ} → Picked test m list count → m < 9 → (b : Bool) → test m ≡ b → Kept list count m b list′ count′ →
+    Picked test (m + 1) list′ count′
+unfolding one
+picked-keep p h b e left-out = picked-past p e
+picked-keep p h b e put = picked-on p h true e

@@ -1,10 +1,10 @@
 -- The moves that are picked from the eight.
 use mathlib.Core.Path.{_≡_}
-use mathlib.Core.Bool.{Bool, cond, _&&_}
+use mathlib.Core.Bool.{Bool, true, false, cond, _&&_}
 use mathlib.Core.List.{List}
 use Prim.Native.Nat.{ℕ, _+_, _*_, _-_, _/_, _%_, _≤_, _<_}
 use lib.Dec.{T, ltb, leb, eqb}
-use lib.ListN.{getD, length}
+use lib.ListN.{getD, length, set}
 
 -- 1 where a test passes
 unfoldable pub one : Bool → ℕ
@@ -28,6 +28,11 @@ pub record Picked (test : ℕ → Bool) (m : ℕ) (list : List ℕ) (count : ℕ
   pub few : count ≤ m
   pub only : (j : ℕ) → j < count → (getD list j 0 < m) × T (test (getD list j 0))
   pub every : (k : ℕ) → k < m → T (test k) → (j : ℕ) × (j < count) × (getD list j 0 ≡ k)
+
+-- a number at the end of a list, where it is picked
+pub data Kept (list : List ℕ) (count k : ℕ) : Bool → List ℕ → ℕ → Type 0 where
+  left-out : Kept list count k false list count
+  put : Kept list count k true (set list count k) (count + 1)
 
 -- the state that move k leads to is above a number
 unfoldable pub isNear : List ℕ → ℕ → ℕ → List ℕ → ℕ → ℕ → Bool

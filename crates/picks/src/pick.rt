@@ -3,14 +3,7 @@ ghost use mathlib.Core.Path.{_≡_};
 ghost use Prim.Native.Nat.{_+_, _≤_, _<_};
 ghost use lib.Dec.{ltb};
 ghost use lib.ListN.{length};
-ghost use Rattle.picks.specs.Picks.{one, highest, within, Picked, isNear, isInside, Around, Edge};
-
-// 1 where the state is above the number, else 0.
-pub fn above(low: u16, state: u16) -> usize
-    ensures { λ r. ⌜ r ≡ one (ltb low state) ⌝ }
-{
-    if low < state { 1 } else { 0 }
-}
+ghost use Rattle.picks.specs.Picks.{one, highest, within, Picked, Kept, isNear, isInside, Around, Edge};
 
 // 1 where a column or a row, counted from 1, is in the map, else 0.
 pub fn within(place: usize, size: usize) -> usize
@@ -32,8 +25,19 @@ pub fn highest(state: u16) -> u16
     state / 32 * 32 + 31
 }
 
-// Lists the moves to states above a number, from a cell with eight neighbours; answers how many there are. Each move is written and only counted where it is one: there is
-// no branch to guess.
+// The list with move k at its end, where it is picked; answers how many moves are listed then.
+pub fn keep(list: &mut [u8; 9], count: usize, k: usize, picked: bool) -> usize
+    requires { ⌜ (count < 9) × (k < 9) × (length (now list) ≡ 9) ⌝ }
+    ensures { λ r. ⌜ Kept (now (list .entry)) count k picked (now (list .exit)) r ⌝ }
+{
+    if !picked {
+        return count;
+    }
+    list[count] = k as u8;
+    count + 1
+}
+
+// Lists the moves to states above a number, from a cell with eight neighbours; answers how many there are.
 pub fn near(
     states: &[u16],
     width: usize,
@@ -47,8 +51,7 @@ pub fn near(
 {
     let mut count: usize = 0;
     for k in 0..8 {
-        list[count] = k as u8;
-        count += above(low, states[index + steps[k] - width - 1]);
+        count = keep(list, count, k, low < states[index + steps[k] - width - 1]);
     }
     count
 }

@@ -1,4 +1,4 @@
--- `decimal::write::natural`: the digits of a tenth of the number, and then the last one.
+-- `decimalwrite::write::natural`: the digits of a tenth of the number, and then the last one.
 use Prim.Native.Nat.{ℕ, _<_}
 use native.Mathlib.Omega.{arith}
 use borrow.Author.Needs.{needs}

@@ -1,4 +1,4 @@
--- `decimal::write::natural_length`: a tenth of the number has one digit less.
+-- `decimalwrite::write::natural_length`: a tenth of the number has one digit less.
 use mathlib.Core.Path.{sym, ap, _∙_}
 use Prim.Native.Nat.{ℕ, _+_, _<_}
 use native.Mathlib.Omega.{arith}

@@ -1,4 +1,4 @@
--- `decimal::write::integer`: a minus where the number is below 0, and its digits.
+-- `decimalwrite::write::integer`: a minus where the number is below 0, and its digits.
 use mathlib.Core.Path.{_≡_, sym, ap, _∙_}
 use mathlib.Core.List.{_∷_}
 use Prim.Native.Nat.{ℕ}

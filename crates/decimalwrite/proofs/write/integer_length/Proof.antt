@@ -1,4 +1,4 @@
--- `decimal::write::integer_length`: a minus before the digits counts one.
+-- `decimalwrite::write::integer_length`: a minus before the digits counts one.
 use mathlib.Core.Path.{_≡_, sym, ap, _∙_}
 use Prim.Native.Nat.{ℕ}
 use native.Mathlib.Omega.{arith}

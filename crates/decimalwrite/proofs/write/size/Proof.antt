@@ -1,4 +1,4 @@
--- `decimal::write::size`: 0 less a number below 0, through 64 bits.
+-- `decimalwrite::write::size`: 0 less a number below 0, through 64 bits.
 use borrow.Author.Needs.{needs}
 use Rattle.decimal.proofs.Signs.{wide-fits, off-fits, off-may-cast, off-is, natural-may-cast}
 use Rattle.decimalwrite.proofs.write.size.Statement.{statement}

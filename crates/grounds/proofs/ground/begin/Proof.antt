@@ -1,4 +1,4 @@
--- `make::ground::begin`: the intervals end in their rows, so the lanes have room to start.
+-- `grounds::ground::begin`: the intervals end in their rows, so the lanes have room to start.
 use Prim.Native.Nat.{_*_, _/_, _≤_}
 use native.Mathlib.Omega.{arith}
 use lib.ListN.{length}

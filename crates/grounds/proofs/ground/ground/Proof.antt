@@ -1,4 +1,4 @@
--- `make::ground::ground`: each fill finds what the one before left, and the flags find walk bytes that are 0 or 1.
+-- `grounds::ground::ground`: each fill finds what the one before left, and the flags find walk bytes that are 0 or 1.
 use native.Mathlib.Omega.{arith}
 use denote.Ref.{now}
 use borrow.Author.Needs.{needs}

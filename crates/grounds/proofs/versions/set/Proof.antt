@@ -1,4 +1,4 @@
--- `make::versions::set`: the entries that the loop passed hold the number, and the others stay.
+-- `grounds::versions::set`: the entries that the loop passed hold the number, and the others stay.
 use mathlib.Core.Path.{_≡_, refl}
 use Prim.Native.Nat.{ℕ, _+_, _-_, _≤_}
 use native.Mathlib.Omega.{arith}

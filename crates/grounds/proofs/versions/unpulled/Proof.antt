@@ -1,4 +1,4 @@
--- `make::versions::unpulled`: each buffer by the numbers that were written to it.
+-- `grounds::versions::unpulled`: each buffer by the numbers that were written to it.
 use mathlib.Core.Path.{_∙_, ap}
 use Prim.Native.Nat.{ℕ, _+_, _-_}
 use borrow.Author.Needs.{needs}

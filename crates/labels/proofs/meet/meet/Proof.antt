@@ -1,4 +1,4 @@
--- `join::meet::meet`: equal parents, depths too far, or one union.
+-- `labels::meet::meet`: equal parents, depths too far, or one union.
 use native.Mathlib.Omega.{arith}
 use Rattle.labels.proofs.Growing.{met-already, met-far, met-now}
 use borrow.Author.Needs.{needs}

@@ -1,4 +1,4 @@
--- `join::list::central`: both tests.
+-- `picks::list::central`: both tests.
 use mathlib.Core.Path.{sym, _∙_}
 use borrow.Author.Tests.{not-true, not-false}
 use borrow.Author.Needs.{needs}

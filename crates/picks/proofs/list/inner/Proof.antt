@@ -1,4 +1,4 @@
--- `join::list::inner`: test after test.
+-- `picks::list::inner`: test after test.
 use native.Mathlib.Omega.{arith}
 use borrow.Author.Tests.{lt-ltb, le-ltb}
 use Rattle.picks.specs.Picks.{inner}

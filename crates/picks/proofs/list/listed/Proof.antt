@@ -1,4 +1,4 @@
--- `join::list::listed`: at the edge, or away from it.
+-- `picks::list::listed`: at the edge, or away from it.
 use native.Mathlib.Omega.{arith}
 use Rattle.labels.proofs.Answers.{is-open}
 use Rattle.picks.proofs.Listing.{at-edge, around, flat-in, listed-edge, listed-near}

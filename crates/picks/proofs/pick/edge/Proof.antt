@@ -1,4 +1,4 @@
--- `join::pick::edge`: the moves that the loop passed are picked.
+-- `picks::pick::edge`: the moves that the loop passed are picked.
 use mathlib.Core.Path.{_≡_, refl}
 use Prim.Native.Nat.{_*_, _-_, _≤_}
 use native.Mathlib.Omega.{arith}

@@ -1,4 +1,4 @@
--- `join::pick::highest`: by the depth.
+-- `picks::pick::highest`: by the depth.
 use native.Mathlib.Omega.{arith}
 use Prim.Native.Nat.{_%_}
 use borrow.Author.Tests.{eq-eqb, ne-eqb}

@@ -1,10 +1,9 @@
--- `join::pick::near`: the moves that the loop passed are picked.
-use mathlib.Core.Path.{_≡_, refl, _∙_, ap}
+-- `picks::pick::near`: the moves that the loop passed are picked.
+use mathlib.Core.Path.{_≡_, refl}
 use Prim.Native.Nat.{_-_, _≤_}
 use native.Mathlib.Omega.{arith}
-use borrow.Author.Needs.{needs}
-use Rattle.picks.specs.Picks.{one, isNear, Picked}
-use Rattle.picks.proofs.Picking.{one-le, picked-none, picked-on}
+use Rattle.picks.specs.Picks.{isNear, Picked}
+use Rattle.picks.proofs.Picking.{picked-none, picked-keep}
 use Rattle.picks.proofs.pick.near.Statement.{statement}
 use Rattle.picks.proofs.pick.near.Tie as tie
 
@@ -17,38 +16,29 @@ abbrev μ-loop : tie.MeasureT-loop
 loop-holds : tie.Need-loop-holds Inv-loop μ-loop
 loop-holds c = (omega arith, picked-none _ _ (c .before .pre .1))
 
-cast-list : tie.Need-cast-list Inv-loop μ-loop
-cast-list c = omega arith
+mul-keep : tie.Need-mul-keep Inv-loop μ-loop
+mul-keep c = omega arith
 
-element-write-list : tie.Need-element-write-list Inv-loop μ-loop
-element-write-list c = omega (arith, c .before .loop .inv .1 .few)
+element-copy-out-keep : tie.Need-element-copy-out-keep Inv-loop μ-loop
+element-copy-out-keep c = omega arith
 
-mul-above : tie.Need-mul-above Inv-loop μ-loop
-mul-above c = omega arith
+add-keep : tie.Need-add-keep Inv-loop μ-loop
+add-keep c = omega (arith, c .before .before .before .before .before .pre .0 .short (c .before .before .before .loop .k) (omega arith))
 
-element-copy-out-above : tie.Need-element-copy-out-above Inv-loop μ-loop
-element-copy-out-above c = omega arith
+sub-keep : tie.Need-sub-keep Inv-loop μ-loop
+sub-keep c = omega (arith, c .before .before .before .before .before .pre .0 .low)
 
-add-above : tie.Need-add-above Inv-loop μ-loop
-add-above c = omega (arith, c .before .before .before .before .pre .0 .short (c .before .before .loop .k) (omega arith))
+sub-keep-2 : tie.Need-sub-keep-2 Inv-loop μ-loop
+sub-keep-2 c = omega (arith, c .before .before .before .before .before .pre .0 .low)
 
-sub-above : tie.Need-sub-above Inv-loop μ-loop
-sub-above c = omega (arith, c .before .before .before .before .pre .0 .low)
+mul-keep-2 : tie.Need-mul-keep-2 Inv-loop μ-loop
+mul-keep-2 c = omega (arith, c .before .before .before .before .before .pre .0 .high, c .before .before .before .before .before .pre .0 .short (c .before .before .before .loop .k) (omega arith))
 
-sub-above-2 : tie.Need-sub-above-2 Inv-loop μ-loop
-sub-above-2 c = omega (arith, c .before .before .before .before .pre .0 .low)
+shared-slice-read-keep : tie.Need-shared-slice-read-keep Inv-loop μ-loop
+shared-slice-read-keep c = omega (arith, c .before .before .before .before .before .before .pre .0 .low, c .before .before .before .before .before .before .pre .0 .high, c .before .before .before .before .before .before .pre .0 .short (c .before .before .before .before .loop .k) (omega arith))
 
-mul-above-2 : tie.Need-mul-above-2 Inv-loop μ-loop
-mul-above-2 c = omega (arith, c .before .before .before .before .pre .0 .high, c .before .before .before .before .pre .0 .short (c .before .before .loop .k) (omega arith))
-
-shared-slice-read-above : tie.Need-shared-slice-read-above Inv-loop μ-loop
-shared-slice-read-above c = omega (arith, c .before .before .before .before .before .pre .0 .low, c .before .before .before .before .before .pre .0 .high, c .before .before .before .before .before .pre .0 .short (c .before .before .before .loop .k) (omega arith))
-
-above-requires : tie.Need-above-requires Inv-loop μ-loop
-above-requires c κs = search needs
-
-add-count : tie.Need-add-count Inv-loop μ-loop
-add-count c = omega (arith, c .before .before .before .before .loop .inv .1 .few, one-le _ (c .above .ensures))
+keep-requires : tie.Need-keep-requires Inv-loop μ-loop
+keep-requires c κs = let p = c .before .before .before .before .loop .inv .1 in (omega (arith, p .few), omega arith, p .long)
 
 add-k : tie.Need-add-k Inv-loop μ-loop
 add-k c = omega arith
@@ -59,8 +49,8 @@ loop-less c = omega arith
 loop-again : tie.Need-loop-again Inv-loop μ-loop
 unfolding isNear
 loop-again c =
-    let l = c .before .before .before .before .loop in
-    (omega arith, rw (c .above .ensures) (picked-on (l .inv .1) (omega arith) _ refl))
+    let l = c .before .before .before .before .before .loop in
+    (omega arith, picked-keep (l .inv .1) (omega arith) _ refl (c .keep .ensures))
 
 returns : tie.Need-returns Inv-loop μ-loop
 returns c =
@@ -75,17 +65,14 @@ near-spec =
     Inv-loop
     μ-loop
     loop-holds
-    cast-list
-    element-write-list
-    mul-above
-    element-copy-out-above
-    add-above
-    sub-above
-    sub-above-2
-    mul-above-2
-    shared-slice-read-above
-    above-requires
-    add-count
+    mul-keep
+    element-copy-out-keep
+    add-keep
+    sub-keep
+    sub-keep-2
+    mul-keep-2
+    shared-slice-read-keep
+    keep-requires
     add-k
     loop-less
     loop-again

@@ -1,4 +1,4 @@
--- `join::pick::within`: one where both tests hold.
+-- `picks::pick::within`: one where both tests hold.
 use native.Mathlib.Omega.{arith}
 use borrow.Author.Tests.{le-leb, lt-leb}
 use Rattle.picks.specs.Picks.{one, within}

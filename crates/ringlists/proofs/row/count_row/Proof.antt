@@ -1,4 +1,4 @@
--- `access::row::count_row`: the places of both runs, one after the other.
+-- `ringlists::row::count_row`: the places of both runs, one after the other.
 use borrow.Author.Needs.{needs}
 use native.Mathlib.Omega.{arith}
 use Rattle.ringlists.proofs.RingRows.{row-length, row-most}

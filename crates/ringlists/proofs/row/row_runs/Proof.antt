@@ -1,4 +1,4 @@
--- `access::row::row_runs`: above the body, below it, and beside it.
+-- `ringlists::row::row_runs`: above the body, below it, and beside it.
 use mathlib.Core.Path.{_∙_}
 use borrow.Author.Needs.{needs}
 use native.Mathlib.Omega.{arith}

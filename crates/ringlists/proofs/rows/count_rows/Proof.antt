@@ -1,4 +1,4 @@
--- `access::rows::count_rows`: the walkable cells of the rows that the loop passed.
+-- `ringlists::rows::count_rows`: the walkable cells of the rows that the loop passed.
 use mathlib.Core.Path.{_≡_, sym, ap, _∙_}
 use Prim.Native.Nat.{_+_, _-_, _≤_}
 use native.Mathlib.Omega.{arith}

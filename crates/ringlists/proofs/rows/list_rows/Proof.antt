@@ -1,4 +1,4 @@
--- `access::rows::list_rows`: the walkable cells of the rows that the loop passed are listed.
+-- `ringlists::rows::list_rows`: the walkable cells of the rows that the loop passed are listed.
 use Prim.Native.Nat.{_+_, _-_, _≤_}
 use native.Mathlib.Omega.{arith}
 use Rattle.cells.specs.Boxes.{boxOf}

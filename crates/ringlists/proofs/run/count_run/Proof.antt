@@ -1,4 +1,4 @@
--- `access::run::count_run`: the walkable ones of the cells that the loop passed.
+-- `ringlists::run::count_run`: the walkable ones of the cells that the loop passed.
 use mathlib.Core.Path.{_≡_, sym, ap}
 use Prim.Native.Nat.{_+_, _-_, _≤_}
 use borrow.Author.Needs.{needs}

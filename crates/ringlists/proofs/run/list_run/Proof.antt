@@ -1,4 +1,4 @@
--- `access::run::list_run`: the walkable ones of the cells that the loop passed are listed.
+-- `ringlists::run::list_run`: the walkable ones of the cells that the loop passed are listed.
 use mathlib.Core.Path.{_≡_}
 use Prim.Native.Nat.{_-_, _≤_}
 use native.Mathlib.Omega.{arith}

@@ -1,4 +1,4 @@
--- `access::run::put`: nothing is listed of a cell that is not walkable, and its place of one that is.
+-- `ringlists::run::put`: nothing is listed of a cell that is not walkable, and its place of one that is.
 use mathlib.Core.Path.{refl, ap}
 use borrow.Author.Needs.{needs}
 use native.Mathlib.Omega.{arith}

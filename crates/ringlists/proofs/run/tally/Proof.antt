@@ -1,4 +1,4 @@
--- `access::run::tally`: the number of places of one cell.
+-- `ringlists::run::tally`: the number of places of one cell.
 use native.Mathlib.Omega.{arith}
 use Rattle.ringlists.proofs.Places.{open-yes, open-no}
 use Rattle.ringlists.proofs.run.tally.Statement.{statement}

@@ -1,4 +1,4 @@
--- `disjoint::union::link`: the class of the lower root goes under the higher one.
+-- `unions::union::link`: the class of the lower root goes under the higher one.
 use borrow.Author.Needs.{needs}
 use Rattle.disjoint.proofs.Finding.{root-rank}
 use Rattle.unions.proofs.Joining.{linked-united}

@@ -1,4 +1,4 @@
--- `disjoint::union::raised`: one more where the ranks are equal.
+-- `unions::union::raised`: one more where the ranks are equal.
 use borrow.Author.Needs.{needs}
 use native.Mathlib.Omega.{arith}
 use Rattle.unions.proofs.Joining.{raised-same, raised-other}

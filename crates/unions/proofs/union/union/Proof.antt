@@ -1,4 +1,4 @@
--- `disjoint::union::union`: both members have one root already, or the root of lower rank goes under the other.
+-- `unions::union::union`: both members have one root already, or the root of lower rank goes under the other.
 use borrow.Author.Needs.{needs}
 use native.Mathlib.Omega.{arith}
 use Rattle.unions.proofs.Joining.{united-back, same-united, roots-apart, roots-turned, roots-united}

@@ -1,4 +1,4 @@
--- `join::plant::plant`: the cell is left alone, meets a label, or is labelled.
+-- `visits::plant::plant`: the cell is left alone, meets a label, or is labelled.
 use Prim.Native.Nat.{_<_}
 use native.Mathlib.Omega.{arith}
 use lib.ListN.{length}

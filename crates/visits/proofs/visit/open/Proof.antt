@@ -1,4 +1,4 @@
--- `join::visit::open`: test after test.
+-- `visits::visit::open`: test after test.
 use native.Mathlib.Omega.{arith}
 use borrow.Author.Tests.{lt-ltb, le-ltb}
 use Rattle.disjoint.specs.Forest.{of}

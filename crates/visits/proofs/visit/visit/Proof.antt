@@ -1,4 +1,4 @@
--- `join::visit::visit`: the move is shut, meets a label, or labels the next cell.
+-- `visits::visit::visit`: the move is shut, meets a label, or labels the next cell.
 use Prim.Native.Nat.{_<_}
 use native.Mathlib.Omega.{arith}
 use lib.ListN.{length}
