@@ -6,7 +6,7 @@ use oracle::UnchangedRust;
 use oracle::interface::{Engine, Field, FieldCall, LARGEST_SIDE};
 use oracle::maps::Random;
 
-use super::{Kept, Tally, compare_accepted, compare_refusals, equal};
+use super::{Kept, Tally, compare_accepted, compare_refusals, equal, equal_lists};
 use crate::calls::{Buffers, FieldBuffers, FieldInput, grid};
 use crate::heap::{target_costs, target_costs_of};
 
@@ -25,7 +25,7 @@ pub fn compare(
     compare_answer(call, &expected, random, kept, tally)?;
     if random.below(SEARCHED_ONE_IN) == 0 {
         let costs = target_costs_of(call, &expected);
-        equal("the searched costs", &costs, &target_costs(call))?;
+        equal_lists("the searched costs", &costs, &target_costs(call))?;
         tally.searched += 1;
     }
     compare_made_up_readings(random, tally)

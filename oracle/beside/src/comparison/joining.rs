@@ -6,7 +6,7 @@ use oracle::UnchangedRust;
 use oracle::interface::{AccessLists, Engine, Map, Rectangle};
 use oracle::maps::Random;
 
-use super::{Kept, Tally, compare_accepted, compare_refusals, equal};
+use super::{Kept, Tally, compare_accepted, compare_refusals, equal, equal_lists};
 use crate::calls::{
     AccessBuffers, AccessInput, Buffers, FieldsBuffers, FieldsInput, ListsBuffers, ListsInput, grid,
 };
@@ -61,8 +61,9 @@ pub fn compare_access_of(
         out: expected.clone(),
     };
     compare_accepted(input, answer, &used, random)?;
-    let found = cerandool::access_cells(&grid(&input.map), input.rectangle.into());
-    equal("the crate's access cells", &Ok(expected), &found)
+    let found = cerandool::access_cells(&grid(&input.map), input.rectangle.into())
+        .map_err(|refusal| format!("the crate's access cells: {refusal}"))?;
+    equal_lists("the crate's access cells", &expected, &found)
 }
 
 /// The access cells of all rectangles in one call, and its refusals. It gives back the lists.
@@ -102,16 +103,12 @@ pub fn compare_listed(
     let rectangles: Vec<_> = rectangles.iter().copied().map(PixelRect::from).collect();
     let outcome = kept.lists.compute(&grid(&input.map), &rectangles);
     equal("the kept lists' outcome", &Ok(()), &outcome)?;
-    equal(
+    equal_lists(
         "the kept lists' indices",
-        &&expected.cells[..],
-        &kept.lists.indices(),
+        &expected.cells,
+        kept.lists.indices(),
     )?;
-    equal(
-        "the kept lists' ends",
-        &&expected.ends[..],
-        &kept.lists.ends(),
-    )?;
+    equal_lists("the kept lists' ends", &expected.ends, kept.lists.ends())?;
     Ok(expected)
 }
 
@@ -152,11 +149,7 @@ pub fn compare_joined(
     let lists = cerandool::AccessLists::from_parts(access.cells.clone(), access.ends.clone());
     let outcome = kept.fields.compute(&grid(map), &lists);
     equal("the kept fields' outcome", &Ok(()), &outcome)?;
-    equal(
-        "the kept fields' numbers",
-        &&expected[..],
-        &kept.fields.numbers(),
-    )?;
+    equal_lists("the kept fields' numbers", &expected, kept.fields.numbers())?;
     equal("the kept fields' count", &count, &kept.fields.count())
 }
 

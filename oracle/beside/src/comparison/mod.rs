@@ -145,6 +145,22 @@ fn described<C: Call>(call: &C, buffers: &C::Buffers, difference: &str) -> Strin
     )
 }
 
+/// Two lists are equal, or the first entry that differs is told, or their lengths.
+fn equal_lists<T: PartialEq + Debug>(
+    what: &str,
+    expected: &[T],
+    found: &[T],
+) -> Result<(), String> {
+    let differs = expected.iter().zip(found).position(|(a, b)| a != b);
+    match differs {
+        Some(index) => Err(format!(
+            "{what}, entry {index}: {:?} for {:?}",
+            found[index], expected[index]
+        )),
+        None => equal(what, &expected.len(), &found.len()),
+    }
+}
+
 fn equal<T: PartialEq + Debug>(what: &str, expected: &T, found: &T) -> Result<(), String> {
     if found == expected {
         Ok(())
