@@ -1,5 +1,5 @@
-//! Document 01's calls as plain data: what goes in, what comes out, and the traits of an engine that
-//! answers and can be timed. A second implementation stands behind the same traits.
+//! Document 01's calls as plain data: what goes in, what comes out, and the trait of an engine that
+//! answers and can be timed. A second implementation stands behind the same trait.
 
 use std::fmt;
 use std::ops::Range;
@@ -96,18 +96,13 @@ impl AccessLists {
 /// One call whose inputs are laid out as the engine wants them, to be run again and again.
 pub type Run<'a> = Box<dyn FnMut() + 'a>;
 
-/// Answers accepted field calls. What document 01 refuses is not asked.
-pub trait FieldEngine {
+/// Answers accepted calls. What document 01 refuses is not asked. Laying out the inputs is not part of
+/// a run.
+pub trait Engine {
     fn name(&self) -> &str;
 
     fn field(&self, call: &FieldCall) -> Field;
 
-    /// The field call to be timed: laying out its inputs is not part of a run.
-    fn field_run<'a>(&'a self, call: &'a FieldCall) -> Run<'a>;
-}
-
-/// Answers all of document 01's accepted calls: access cells and fields of resources too.
-pub trait Engine: FieldEngine {
     /// The walkable ring cells of a rectangle, as indices by row, then column.
     fn access_cells(&self, map: &Map, rectangle: Rectangle) -> Vec<u32>;
 
@@ -116,6 +111,9 @@ pub trait Engine: FieldEngine {
 
     /// One field number per resource.
     fn fields(&self, map: &Map, access: &AccessLists) -> Vec<u16>;
+
+    /// The field call, to be timed.
+    fn field_run<'a>(&'a self, call: &'a FieldCall) -> Run<'a>;
 
     /// The access cells of all resources, to be timed.
     fn access_run<'a>(&'a self, map: &'a Map, resources: &'a [Rectangle]) -> Run<'a>;
@@ -141,6 +139,9 @@ impl fmt::Display for Refusal {
 pub const LARGEST_SIDE: u32 = 1_024;
 
 pub const MOST_BLOCKERS: usize = 4_096;
+
+/// The most resources whose access cells are listed or which are joined in one call.
+pub const MOST_RESOURCES: usize = 512;
 
 impl FieldCall {
     /// Judges refusals 1 to 6 in the field call's order.

@@ -1,7 +1,7 @@
 //! The unchanged Rust of broodmap behind an interface of plain data, with what is needed to ask it:
 //! room texts and case files, document 01's sheets, and maps from a seed.
 //!
-//! - [`interface`]: the inputs and outputs of document 01's calls, and the traits of an engine that
+//! - [`interface`]: the inputs and outputs of document 01's calls, and the trait of an engine that
 //!   answers them
 //! - [`UnchangedRust`]: the engine that is broodmap's own text
 //! - [`room`], [`sheet`], [`maps`]: text in, text out, and map generators

@@ -2,7 +2,7 @@
 //! for its maps to try.
 
 use oracle::UnchangedRust;
-use oracle::interface::{Engine, Field, FieldCall, FieldEngine, Window};
+use oracle::interface::{Engine, Field, FieldCall, Window};
 use oracle::room::{Case, read_cases};
 use oracle::sheet::sheet;
 

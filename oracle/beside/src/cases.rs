@@ -1,7 +1,9 @@
-//! Random field calls that document 01 accepts: maps of many kinds, with resources, blockers and a
-//! target box. A call depends on the numbers of its generator alone.
+//! Random calls that document 01 accepts: maps of many kinds, with resources, blockers and a target
+//! box, and resources to join. A call depends on the numbers of its generator alone.
 
-use oracle::interface::{CellBox, FieldCall, LARGEST_SIDE, MOST_BLOCKERS, Map, Rectangle};
+use oracle::interface::{
+    AccessLists, CellBox, FieldCall, LARGEST_SIDE, MOST_BLOCKERS, MOST_RESOURCES, Map, Rectangle,
+};
 use oracle::maps::{self, Random};
 
 /// A kind of maps: its name, and how one is made.
@@ -68,7 +70,7 @@ const KINDS: [Kind; 10] = [
         name: "one cell high or wide",
         make: |random| {
             let longest = random.pick(&[200, 200, LARGEST_SIDE]);
-            let length = 1 + random.below(longest);
+            let length = random_length(random, longest);
             let percent = random.pick(&[0, 1, 10]);
             maps::random_walls(length, 1, percent, random.bits())
         },
@@ -76,7 +78,7 @@ const KINDS: [Kind; 10] = [
     Kind {
         name: "two cells high or wide",
         make: |random| {
-            let length = 1 + random.below(250);
+            let length = random_length(random, 250);
             let percent = random.pick(&[0, 5, 20]);
             maps::random_walls(length, 2, percent, random.bits())
         },
@@ -145,13 +147,22 @@ fn sides(random: &mut Random) -> (u32, u32) {
     (1 + random.below(most_width), 1 + random.below(most_height))
 }
 
+/// At most so long, but now and then the largest side.
+fn random_length(random: &mut Random, longest: u32) -> u32 {
+    if random.chance(5) {
+        LARGEST_SIDE
+    } else {
+        1 + random.below(longest)
+    }
+}
+
 fn random_walls(random: &mut Random, least_percent: i32, most_percent: i32) -> Map {
     let (width, height) = sides(random);
     let percent = random.between(least_percent, most_percent) as u32;
     maps::random_walls(width, height, percent, random.bits())
 }
 
-/// As many as lanes at most. Half of the time they stand near each other.
+/// As many as lanes at most.
 fn resources(random: &mut Random, map: &Map, lanes: usize) -> Vec<Rectangle> {
     let lanes = lanes as u32;
     let count = match random.below(20) {
@@ -160,6 +171,61 @@ fn resources(random: &mut Random, map: &Map, lanes: usize) -> Vec<Rectangle> {
         6..=9 => lanes,
         _ => 1 + random.below(lanes),
     };
+    rectangles(random, map, count, false)
+}
+
+/// Resources to list and join: from none to as many as there may be, and more of them on larger maps.
+/// Most of the time they are small, so that they are several fields.
+pub fn resources_to_join(random: &mut Random, map: &Map) -> Vec<Rectangle> {
+    let count = count_to_join(random, map);
+    let small = random.chance(75);
+    rectangles(random, map, count, small)
+}
+
+fn count_to_join(random: &mut Random, map: &Map) -> u32 {
+    let most = MOST_RESOURCES as u32;
+    let usual = if map.cells.len() > 5_000 { most } else { 24 };
+    match random.below(50) {
+        0 => 0,
+        1 => most,
+        2 => 1 + random.below(most),
+        3..=9 => 1,
+        10..=19 => 2,
+        20..=29 => 1 + random.below(8),
+        _ => 1 + random.below(usual),
+    }
+}
+
+/// Access cells as no rectangle has them: any cells in any order, some twice, some of them not
+/// walkable, some resources without any.
+pub fn access_to_join(random: &mut Random, map: &Map) -> AccessLists {
+    let (width, height) = (map.width as i32, map.height as i32);
+    let mut access = AccessLists::default();
+    for _ in 0..count_to_join(random, map) {
+        let home = [random.between(0, width - 1), random.between(0, height - 1)];
+        let around = random.pick(&[0, 1, 4, 4, LARGEST_SIDE as i32]);
+        let length = match random.below(10) {
+            0 => 0,
+            1..=4 => 1,
+            5..=8 => 1 + random.below(6),
+            _ => 1 + random.below(40),
+        };
+        let mut part: Vec<u32> = Vec::new();
+        for _ in 0..length {
+            if !part.is_empty() && random.chance(15) {
+                part.push(random.pick(&part));
+                continue;
+            }
+            let [x, y] = home.map(|cell| cell + random.between(-around, around));
+            part.push((y.clamp(0, height - 1) * width + x.clamp(0, width - 1)) as u32);
+        }
+        access.push(&part);
+    }
+    access
+}
+
+/// Half of the time they stand near each other.
+fn rectangles(random: &mut Random, map: &Map, count: u32, small: bool) -> Vec<Rectangle> {
     let (width, height) = (8 * map.width as i32, 8 * map.height as i32);
     let near = random.chance(50);
     let home = [random.between(0, width - 1), random.between(0, height - 1)];
@@ -170,8 +236,8 @@ fn resources(random: &mut Random, map: &Map, lanes: usize) -> Vec<Rectangle> {
             overlapping(random, other, width, height)
         } else {
             let [x, y] = home.map(|pixel| near.then_some(pixel));
-            let (left, right) = span(random, width, x);
-            let (top, bottom) = span(random, height, y);
+            let (left, right) = span(random, width, x, small);
+            let (top, bottom) = span(random, height, y, small);
             [left, top, right, bottom]
         };
         resources.push(resource);
@@ -180,12 +246,12 @@ fn resources(random: &mut Random, map: &Map, lanes: usize) -> Vec<Rectangle> {
 }
 
 /// Where a resource starts and ends along one axis of so many pixels, near a pixel if there is one.
-fn span(random: &mut Random, pixels: i32, near: Option<i32>) -> (i32, i32) {
+fn span(random: &mut Random, pixels: i32, near: Option<i32>, small: bool) -> (i32, i32) {
     let start = match near {
         Some(pixel) => (pixel + random.between(-200, 200)).clamp(0, pixels - 1),
         None => random.between(0, pixels - 1),
     };
-    match random.below(6) {
+    match random.below(if small { 4 } else { 6 }) {
         // whole cells
         0 | 1 => {
             let start = start / 8 * 8;

@@ -1,53 +1,30 @@
-//! Damaged inputs: accepted ones changed so that one of refusals 1 to 6 must be given.
+//! Damaged inputs: accepted ones changed so that one of the refusals about the input must be given.
+//! No damage undoes another: an input may be damaged in several ways.
 
-use oracle::interface::{FieldCall, LARGEST_SIDE, MOST_BLOCKERS, Refusal};
+use oracle::interface::{AccessLists, CellBox, LARGEST_SIDE, MOST_BLOCKERS, MOST_RESOURCES, Map};
 use oracle::maps::Random;
-
-use crate::library::Input;
 
 const TOO_LARGE: u32 = LARGEST_SIDE + 1;
 
-/// Changes an accepted call's input so that the table's test of this number, 1 to 6, no longer holds.
-/// The answer is the refusal. There is none, and nothing is changed, for number 4 on an input
-/// without resources.
-pub fn damage(
-    number: u32,
-    call: &FieldCall,
-    input: &mut Input,
-    random: &mut Random,
-) -> Option<Refusal> {
-    let mut place = 0;
-    match number {
-        1 => bad_grid(call, input, random),
-        2 => input.lanes = random.pick(&[0, 1, 4, 7, 9, 12, 15, 17, 24, 32, 264, u32::MAX]),
-        3 => bad_count(call, input, random),
-        4 => place = bad_resource(call, input, random)?,
-        5 => bad_blockers(input, random),
-        6 => bad_targets(call, input, random),
-        _ => panic!("refusal {number} is not about the input"),
-    }
-    Some(Refusal { number, place })
-}
-
-fn bad_grid(call: &FieldCall, input: &mut Input, random: &mut Random) {
-    let (width, height) = (call.map.width, call.map.height);
-    let cells = &mut input.cells;
+/// Refusal 1.
+pub fn map(accepted: &Map, damaged: &mut Map, random: &mut Random) {
+    let cells = &mut damaged.cells;
     let some_cell = random.below(cells.len() as u32) as usize;
     match random.below(9) {
-        0 => input.width = 0,
-        1 => input.height = 0,
+        0 => damaged.width = 0,
+        1 => damaged.height = 0,
         2 => {
-            input.width = TOO_LARGE;
-            cells.resize((TOO_LARGE * height) as usize, 1);
+            damaged.width = TOO_LARGE;
+            cells.resize((TOO_LARGE * accepted.height) as usize, 1);
         }
         3 => {
-            input.height = TOO_LARGE;
-            cells.resize((TOO_LARGE * width) as usize, 1);
+            damaged.height = TOO_LARGE;
+            cells.resize((TOO_LARGE * accepted.width) as usize, 1);
         }
         // their product is 0 in 32 bits
         4 => {
-            input.width = 1 << 16;
-            input.height = 1 << 16;
+            damaged.width = 1 << 16;
+            damaged.height = 1 << 16;
             cells.clear();
         }
         5 => {
@@ -55,47 +32,64 @@ fn bad_grid(call: &FieldCall, input: &mut Input, random: &mut Random) {
         }
         6 => cells.push(1),
         7 => {
-            input.width = 0;
+            damaged.width = 0;
             cells.clear();
         }
         _ => cells[some_cell] = random.pick(&[2, 3, 128, 255]),
     }
 }
 
-fn bad_count(call: &FieldCall, input: &mut Input, random: &mut Random) {
-    let resources = &mut input.resources;
+/// Refusal 2.
+pub fn lanes(random: &mut Random) -> u32 {
+    random.pick(&[0, 1, 4, 7, 9, 12, 15, 17, 24, 32, 264, u32::MAX])
+}
+
+/// Refusal 3 of rectangles: numbers not in fours, or more rectangles than `most`.
+pub fn count(numbers: &mut Vec<i32>, most: usize, random: &mut Random) {
     if random.chance(50) {
         let more = 1 + random.below(3) as usize;
-        resources.extend(&[0, 0, 8][..more]);
+        numbers.extend(&[0, 0, 8][..more]);
     } else {
-        let count = call.lanes + 1 + random.below(3) as usize;
-        while resources.len() < 4 * count {
-            resources.extend([0, 0, 8, 8]);
+        let count = most + 1 + random.below(3) as usize;
+        while numbers.len() < 4 * count {
+            numbers.extend([0, 0, 8, 8]);
         }
     }
 }
 
-fn bad_resource(call: &FieldCall, input: &mut Input, random: &mut Random) -> Option<usize> {
-    if call.resources.is_empty() {
+/// Refusal 3 of access lists: one or some resources more than there may be.
+pub fn ends(access: &mut AccessLists, random: &mut Random) {
+    let count = MOST_RESOURCES + 1 + random.pick(&[0, 0, 1, 511, 65_535]);
+    access.ends.resize(count, access.cells.len() as u32);
+}
+
+/// Refusal 4: one of the first `count` rectangles, which are those of the accepted call. It gives
+/// back its place.
+pub fn rectangles(
+    map: &Map,
+    count: usize,
+    numbers: &mut [i32],
+    random: &mut Random,
+) -> Option<usize> {
+    if count == 0 {
         return None;
     }
-    let place = random.below(call.resources.len() as u32) as usize;
+    let place = random.below(count as u32) as usize;
     // Later ones may be bad too: the first counts.
-    break_resource(call, input, place, random);
+    break_rectangle(map, &mut numbers[4 * place..4 * place + 4], random);
     if random.chance(30) {
-        for later in place + 1..call.resources.len() {
-            break_resource(call, input, later, random);
+        for later in place + 1..count {
+            break_rectangle(map, &mut numbers[4 * later..4 * later + 4], random);
         }
     }
     Some(place)
 }
 
-fn break_resource(call: &FieldCall, input: &mut Input, place: usize, random: &mut Random) {
-    let sides = [call.map.width, call.map.height];
+fn break_rectangle(map: &Map, numbers: &mut [i32], random: &mut Random) {
+    let sides = [map.width, map.height];
     let axis = random.below(2) as usize;
     let limit = 8 * sides[axis] as i32;
-    let (low, high) = (4 * place + axis, 4 * place + axis + 2);
-    let numbers = &mut input.resources;
+    let (low, high) = (axis, axis + 2);
     match random.below(7) {
         0 => numbers[low] = -1,
         1 => numbers[low] = i32::MIN,
@@ -107,21 +101,21 @@ fn break_resource(call: &FieldCall, input: &mut Input, place: usize, random: &mu
     }
 }
 
-fn bad_blockers(input: &mut Input, random: &mut Random) {
-    let blockers = &mut input.blockers;
+/// Refusal 5.
+pub fn blockers(numbers: &mut Vec<i32>, random: &mut Random) {
     if random.chance(80) {
         let more = 1 + random.below(3) as usize;
-        blockers.extend(&[0, 0, 8][..more]);
+        numbers.extend(&[0, 0, 8][..more]);
     } else {
-        blockers.resize(4 * (MOST_BLOCKERS + 1), 0);
+        numbers.resize(4 * (MOST_BLOCKERS + 1), 0);
     }
 }
 
-fn bad_targets(call: &FieldCall, input: &mut Input, random: &mut Random) {
-    let sides = [call.map.width, call.map.height];
+/// Refusal 6.
+pub fn targets(map: &Map, targets: &mut CellBox, random: &mut Random) {
+    let sides = [map.width, map.height];
     let axis = random.below(2) as usize;
     let size = sides[axis] as i32;
-    let targets = &mut input.targets;
     match random.below(6) {
         0 => targets[axis] = -1,
         1 => targets[axis] = i32::MIN,
@@ -129,5 +123,32 @@ fn bad_targets(call: &FieldCall, input: &mut Input, random: &mut Random) {
         3 => targets[axis + 2] = size,
         4 => targets[axis + 2] = i32::MAX,
         _ => targets[axis + 2] = -1,
+    }
+}
+
+/// Refusal 8, on a map of so many cells: one end falls, the last end is not the list's length, or an
+/// index is not that of a cell.
+pub fn access(cells: usize, access: &mut AccessLists, random: &mut Random) {
+    let AccessLists {
+        cells: indices,
+        ends,
+    } = access;
+    let cells = cells as u32;
+    let some_index = random.below(indices.len().max(1) as u32) as usize;
+    let some_end = random.below(ends.len().max(1) as u32) as usize;
+    match random.below(6) {
+        0 | 1 if !indices.is_empty() => {
+            indices[some_index] = random.pick(&[cells, cells, cells + 1, 1 << 31, u32::MAX]);
+        }
+        2 if !indices.is_empty() => {
+            indices.pop();
+        }
+        // The next end, or the list's length, is smaller.
+        3 | 4 if !ends.is_empty() => {
+            let next = ends.get(some_end + 1).copied();
+            let next = next.unwrap_or(indices.len() as u32);
+            ends[some_end] = random.pick(&[next + 1, next + 1, u32::MAX]);
+        }
+        _ => indices.push(random.below(cells)),
     }
 }

@@ -11,13 +11,13 @@ use super::clustering::{cluster_sets, clusters_from_sets, perimeter_access_cells
 use super::selection::MiningResource;
 use super::{probed, proximity};
 use crate::interface::{
-    AccessLists, CellBox, Engine, Field, FieldCall, FieldEngine, Map, Rectangle, Run, Window,
+    AccessLists, CellBox, Engine, Field, FieldCall, Map, Rectangle, Run, Window,
 };
 use crate::{PixelRect, TerrainGrid};
 
 pub struct UnchangedRust;
 
-impl FieldEngine for UnchangedRust {
+impl Engine for UnchangedRust {
     fn name(&self) -> &str {
         "Rust"
     }
@@ -30,16 +30,6 @@ impl FieldEngine for UnchangedRust {
         }
     }
 
-    fn field_run<'a>(&'a self, call: &'a FieldCall) -> Run<'a> {
-        match call.lanes {
-            8 => field_run::<8>(call),
-            16 => field_run::<16>(call),
-            lanes => panic!("a field call with {lanes} lanes is refused"),
-        }
-    }
-}
-
-impl Engine for UnchangedRust {
     fn access_cells(&self, map: &Map, rectangle: Rectangle) -> Vec<u32> {
         access_cells(&terrain_grid(map), rectangle)
     }
@@ -63,6 +53,14 @@ impl Engine for UnchangedRust {
             }
         }
         fields
+    }
+
+    fn field_run<'a>(&'a self, call: &'a FieldCall) -> Run<'a> {
+        match call.lanes {
+            8 => field_run::<8>(call),
+            16 => field_run::<16>(call),
+            lanes => panic!("a field call with {lanes} lanes is refused"),
+        }
     }
 
     fn access_run<'a>(&'a self, map: &'a Map, resources: &'a [Rectangle]) -> Run<'a> {

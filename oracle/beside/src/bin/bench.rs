@@ -2,25 +2,24 @@
 //!
 //! The first engine is the one that the others are compared with: their answers must be equal to
 //! its answers before anything is timed, and their times are also printed as ratios to its time. In
-//! each repetition every engine runs once, in turn.
+//! each repetition every engine runs once, in turn. Beside field calls a heap search for each
+//! resource is timed too, which must give the same costs at target cells.
 
 use std::env;
+use std::hint::black_box;
 use std::time::{Duration, Instant};
 
 use beside::Cerandool;
+use beside::heap::{HeapSearch, target_costs, target_costs_of};
 use oracle::UnchangedRust;
-use oracle::interface::{AccessLists, Engine, Field, FieldCall, FieldEngine, Map, Rectangle, Run};
+use oracle::interface::{AccessLists, Engine, Field, FieldCall, Map, Rectangle, Run};
 use oracle::maps;
 
 const REPETITIONS: u32 = 100;
 
-/// The engines that answer field calls.
-const FIELD_ENGINES: [&dyn FieldEngine; 2] = [&UnchangedRust, &Cerandool];
+const ENGINES: [&dyn Engine; 2] = [&UnchangedRust, &Cerandool];
 
-/// The engines that answer the other calls too.
-const ENGINES: [&dyn Engine; 1] = [&UnchangedRust];
-
-/// A call that every engine answers which has it.
+/// A call that every engine answers.
 enum Work {
     Field(FieldCall),
     Access(Map, Vec<Rectangle>),
@@ -34,41 +33,69 @@ enum Answer {
     Fields(Vec<u16>),
 }
 
-/// One engine's part in a work: its answer, and its run.
+/// What is timed, and by whose name.
 struct Entry<'a> {
-    engine: &'a str,
-    answer: Answer,
+    name: &'a str,
     run: Run<'a>,
 }
 
 impl Work {
-    fn entries(&self) -> Vec<Entry<'_>> {
+    /// The engine's answer to the call.
+    fn answer(&self, engine: &dyn Engine) -> Answer {
         match self {
-            Work::Field(call) => FIELD_ENGINES
-                .iter()
-                .map(|engine| Entry {
-                    engine: engine.name(),
-                    answer: Answer::Field(engine.field(call)),
-                    run: engine.field_run(call),
-                })
-                .collect(),
-            Work::Access(map, resources) => ENGINES
-                .iter()
-                .map(|engine| Entry {
-                    engine: engine.name(),
-                    answer: Answer::Access(engine.access_lists(map, resources)),
-                    run: engine.access_run(map, resources),
-                })
-                .collect(),
-            Work::Fields(map, access) => ENGINES
-                .iter()
-                .map(|engine| Entry {
-                    engine: engine.name(),
-                    answer: Answer::Fields(engine.fields(map, access)),
-                    run: engine.fields_run(map, access),
-                })
-                .collect(),
+            Work::Field(call) => Answer::Field(engine.field(call)),
+            Work::Access(map, resources) => Answer::Access(engine.access_lists(map, resources)),
+            Work::Fields(map, access) => Answer::Fields(engine.fields(map, access)),
         }
+    }
+
+    fn run<'a>(&'a self, engine: &'a dyn Engine) -> Run<'a> {
+        match self {
+            Work::Field(call) => engine.field_run(call),
+            Work::Access(map, resources) => engine.access_run(map, resources),
+            Work::Fields(map, access) => engine.fields_run(map, access),
+        }
+    }
+
+    /// What is timed: each engine, and beside a field call the heap search.
+    fn entries(&self) -> Vec<Entry<'_>> {
+        let engines = ENGINES.iter().map(|&engine| Entry {
+            name: engine.name(),
+            run: self.run(engine),
+        });
+        let mut entries: Vec<_> = engines.collect();
+        if let Work::Field(call) = self {
+            let mut search = HeapSearch::default();
+            entries.push(Entry {
+                name: "heap",
+                run: Box::new(move || {
+                    search.compute(black_box(call));
+                    black_box(&search);
+                }),
+            });
+        }
+        entries
+    }
+
+    /// The first engine's answer, which is that of all others.
+    fn agreed_answer(&self, name: &str) -> Answer {
+        let first = self.answer(ENGINES[0]);
+        for &engine in &ENGINES[1..] {
+            assert!(
+                self.answer(engine) == first,
+                "{name}: {} differs from {}",
+                engine.name(),
+                ENGINES[0].name()
+            );
+        }
+        if let (Work::Field(call), Answer::Field(field)) = (self, &first) {
+            assert!(
+                target_costs(call) == target_costs_of(call, field),
+                "{name}: the heap search differs from {}",
+                ENGINES[0].name()
+            );
+        }
+        first
     }
 }
 
@@ -180,23 +207,16 @@ fn main() {
     };
     println!("least of {repetitions} repetitions, in milliseconds");
     for (name, work) in works() {
+        let answer = work.agreed_answer(&name);
         let mut entries = work.entries();
-        for entry in &entries[1..] {
-            assert!(
-                entry.answer == entries[0].answer,
-                "{name}: {} differs from {}",
-                entry.engine,
-                entries[0].engine
-            );
-        }
         let times = least_times(&mut entries, repetitions);
-        print!("{name:44} {:32}", entries[0].answer.summary());
+        print!("{name:44} {:32}", answer.summary());
         for (entry, time) in entries.iter().zip(&times) {
-            print!(" {} {:9.3}", entry.engine, time.as_secs_f64() * 1_000.0);
+            print!(" {} {:9.3}", entry.name, time.as_secs_f64() * 1_000.0);
         }
         for (entry, time) in entries.iter().zip(&times).skip(1) {
             let ratio = time.as_secs_f64() / times[0].as_secs_f64();
-            print!(" {} / {} {ratio:.2}", entry.engine, entries[0].engine);
+            print!(" {} / {} {ratio:.2}", entry.name, entries[0].name);
         }
         println!();
     }
