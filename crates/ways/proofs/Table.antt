@@ -1,12 +1,12 @@
 -- The table of gates, strip by strip.
-use mathlib.Core.Path.{_≡_, _∙_}
-use mathlib.Core.List.{List}
-use Prim.Native.Nat.{ℕ, zero, suc, _+_, _*_, _<_}
+use mathlib.Core.Path.{_≡_, refl, sym, _∙_}
+use mathlib.Core.List.{List, [], _∷_}
+use Prim.Native.Nat.{ℕ, zero, suc, _+_, _*_, _<_, min, max}
 use native.Mathlib.Decide.{ℕ-discrete}
 use native.Mathlib.Omega.{arith}
-use lib.IntN.{ℤ}
+use lib.IntN.{ℤ, pos}
 use Rattle.walkgraph.proofs.Tests.{by-cases}
-use Rattle.lane.specs.Levels.{levelAt}
+use Rattle.lane.specs.Levels.{levelAt, outLevel}
 use Rattle.strip.specs.Strips.{lanesAt}
 use Rattle.strip.proofs.Strips.{levels-at}
 use Rattle.ways.specs.Row.{gate}
@@ -31,3 +31,18 @@ below-eight P a b c d e f g h (suc (suc (suc (suc (suc zero))))) l = f
 below-eight P a b c d e f g h (suc (suc (suc (suc (suc (suc zero)))))) l = g
 below-eight P a b c d e f g h (suc (suc (suc (suc (suc (suc (suc zero))))))) l = h
 below-eight P a b c d e f g h (suc (suc (suc (suc (suc (suc (suc (suc k)))))))) l = absurd (omega arith)
+
+-- ---- a wall: its gate is shut, so each lane is unreachable, whatever leads to it
+abbrev pub shutStrip : List ℤ
+shutStrip = pos 32767 ∷ pos 32767 ∷ pos 32767 ∷ pos 32767 ∷ pos 32767 ∷ pos 32767 ∷ pos 32767 ∷ pos 32767 ∷ []
+
+shut-level : (k : ℕ) → k < 8 → levelAt shutStrip k ≡ 65535
+shut-level = below-eight (λ k. levelAt shutStrip k ≡ 65535) refl refl refl refl refl refl refl refl
+
+capped : (a b : ℕ) → max (min a (min b 65535)) 65535 ≡ 65535
+capped a b = omega arith
+
+pub wall-out : {bit : ℕ} → bit ≡ 0 → (k : ℕ) → k < 8 → (old over west east beside westGate eastGate : ℕ) →
+    levelAt shutStrip k ≡ outLevel old over west east beside westGate eastGate (gate bit)
+unfolding outLevel
+wall-out e k h old over west east beside westGate eastGate = shut-level k h ∙ rw e (sym (capped _ (beside + 500)))

@@ -8,7 +8,7 @@ ghost use Rattle.ways.specs.Row.{outLevels, backLevels};
 ghost use Rattle.ways.specs.Buffers.{Gates, CellFits};
 
 // The strip at index i on the way out: o is the index of the strip that feeds it, whose neighbours lie lane_count
-// before and after; beside is the strip just left, flag the cell's flags.
+// before and after; beside is the strip just left, flag the cell's flags. A wall is answered at once: what leads to it is not looked at.
 pub fn out(
     lanes: &[i16],
     gates: &[i16; 16],
@@ -22,6 +22,9 @@ pub fn out(
     requires { ⌜ Gates (now gates) × CellFits «lane_count» i o (length (now lanes)) ⌝ }
     ensures { λ r. ⌜ HasLevels 8 r (outLevels «lane_count» down flag (levelAt (now (lanes .entry))) i o (levelAt beside)) ⌝ }
 {
+    if flag % 2 == 0 {
+        return [32767; 8];
+    }
     let turned = gate::turned(flag, down);
     strip::out(
         strip::load(lanes, i),

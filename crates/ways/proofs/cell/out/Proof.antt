@@ -7,10 +7,13 @@ use denote.Ref.{now}
 use Rattle.strip.specs.Strips.{outAt}
 use Rattle.strip.proofs.Strips.{levels-at}
 use Rattle.ways.specs.Row.{turned}
-use Rattle.ways.proofs.Table.{gate-level}
+use Rattle.ways.proofs.Table.{gate-level, wall-out}
 use borrow.Author.Needs.{needs}
 use Rattle.ways.proofs.cell.out.Statement.{statement}
 use Rattle.ways.proofs.cell.out.Tie as tie
+
+returns : tie.Need-returns
+returns c = record { each = λ k h. wall-out (c .if1 .taken) k h _ _ _ _ _ _ _ }
 
 turned-requires : tie.Need-turned-requires
 turned-requires c κs = search needs
@@ -54,11 +57,11 @@ load-requires-7 c κs = omega arith
 out-requires : tie.Need-out-requires
 out-requires c κs = search needs
 
-returns : tie.Need-returns
+returns-2 : tie.Need-returns-2
 unfolding outAt
-returns c =
-    let a = c .before .before .before .before .before .before .before .before .before .before .before .before .before .before .before .args in
-    let g = c .before .before .before .before .before .before .before .before .before .before .before .before .before .before .before .pre .0 in
+returns-2 c =
+    let a = c .before .before .before .before .before .before .before .before .before .before .before .before .before .before .before .before .args in
+    let g = c .before .before .before .before .before .before .before .before .before .before .before .before .before .before .before .before .pre .0 in
     let bit : (n : ℕ) → n % 2 < 2 = λ n. mod-lt n (omega arith) in
     record {
       each = λ k h. c .out .ensures .each k h
@@ -89,6 +92,7 @@ pub out-spec : {M : Type 1} → statement M
 out-spec =
     tie.close
     (tie.spec
+    returns
     turned-requires
     load-requires
     load-requires-2
@@ -103,4 +107,4 @@ out-spec =
     walk-gate-requires
     load-requires-7
     out-requires
-    returns)
+    returns-2)
