@@ -4,12 +4,13 @@
 //! - [`interface`]: the inputs and outputs of document 01's calls, and the trait of an engine that
 //!   answers them
 //! - [`UnchangedRust`]: the engine that is broodmap's own text
-//! - [`room`], [`sheet`], [`maps`]: text in, text out, and map generators
+//! - [`room`], [`sheet`], [`rooms`], [`maps`]: text in, text out, and generators of rooms and maps
 
 mod bases;
 pub mod interface;
 pub mod maps;
 pub mod room;
+pub mod rooms;
 pub mod sheet;
 mod terrain;
 

@@ -1,4 +1,4 @@
-//! Reads room texts and case files, and writes a case.
+//! Reads room texts and case files, writes a case, and judges a text as the program does.
 //!
 //! A case file is a sequence of cases: a line `case NAME LANES`, then a room text in document 01's
 //! form. Its rooms may be larger than the program's limits (refusal 10); the text's form (9) and the
@@ -7,6 +7,16 @@
 use std::fmt::Write;
 
 use crate::interface::{FieldCall, Map, Refusal};
+
+/// The lanes of program `sheet`.
+pub const PROGRAM_LANES: usize = 8;
+
+/// The limits of refusal 10.
+pub const MOST_BYTES: usize = 8_192;
+pub const MOST_ROWS: u32 = 60;
+pub const MOST_COLUMNS: u32 = 60;
+pub const MOST_BLOCKERS: usize = 64;
+pub const MOST_RESOURCES: usize = 8;
 
 pub struct Case {
     pub name: String,
@@ -21,29 +31,60 @@ impl Case {
 
     /// The case as a case file has it.
     pub fn text(&self) -> String {
-        let mut text = self.head();
-        let mut line = |content: String| writeln!(text, "{content}").expect("a string takes it");
-        let map = &self.call.map;
-        line(map.height.to_string());
-        for row in map.cells.chunks(map.width as usize) {
-            line(
-                row.iter()
-                    .map(|&cell| if cell == 1 { '.' } else { '#' })
-                    .collect(),
-            );
-        }
-        for fours in [
-            &self.call.blockers,
-            &self.call.resources,
-            &vec![self.call.targets],
-        ] {
-            line(fours.len().to_string());
-            for [left, top, right, bottom] in fours {
-                line(format!("{left} {top} {right} {bottom}"));
-            }
-        }
-        text
+        self.head() + &room_text(&self.call)
     }
+}
+
+/// The room text of a call.
+pub fn room_text(call: &FieldCall) -> String {
+    let mut text = String::new();
+    let mut line = |content: String| writeln!(text, "{content}").expect("a string takes it");
+    let map = &call.map;
+    line(map.height.to_string());
+    for row in map.cells.chunks(map.width as usize) {
+        line(
+            row.iter()
+                .map(|&cell| if cell == 1 { '.' } else { '#' })
+                .collect(),
+        );
+    }
+    for fours in [&call.blockers, &call.resources, &vec![call.targets]] {
+        line(fours.len().to_string());
+        for [left, top, right, bottom] in fours {
+            line(format!("{left} {top} {right} {bottom}"));
+        }
+    }
+    text
+}
+
+/// Judges a text as program `sheet` does: its bytes, its form, the other limits, and the field call.
+pub fn read_room(text: &[u8]) -> Result<FieldCall, Refusal> {
+    let too_large = Refusal {
+        number: 10,
+        place: 0,
+    };
+    if text.len() > MOST_BYTES {
+        return Err(too_large);
+    }
+    // What is not UTF-8 breaks its line, as what takes its place does.
+    let text = String::from_utf8_lossy(text);
+    let (call, rest) = read_call(&text, PROGRAM_LANES)?;
+    if !rest.is_empty() {
+        let lines = text.len() - rest.len();
+        return Err(Refusal {
+            number: 9,
+            place: text[..lines].matches('\n').count() + 1,
+        });
+    }
+    if call.map.height > MOST_ROWS
+        || call.map.width > MOST_COLUMNS
+        || call.blockers.len() > MOST_BLOCKERS
+        || call.resources.len() > MOST_RESOURCES
+    {
+        return Err(too_large);
+    }
+    call.judge()?;
+    Ok(call)
 }
 
 /// Reads a whole case file. A case that document 01 refuses is an error, as is a broken case line.

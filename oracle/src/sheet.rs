@@ -4,6 +4,15 @@ use std::fmt::Write;
 
 use crate::bases::proximity::half_cost;
 use crate::interface::{Engine, FieldCall};
+use crate::room::read_room;
+
+/// What program `sheet` prints for a text: a sheet, or one refusal line.
+pub fn program(engine: &dyn Engine, text: &[u8]) -> String {
+    match read_room(text) {
+        Ok(call) => sheet(engine, &call),
+        Err(refusal) => format!("{refusal}\n"),
+    }
+}
 
 /// Window, sweep count, target cells with their half costs, and fields, as program `sheet` prints
 /// them. The limits of refusal 10 and the eight lanes of the program are not asked for.
