@@ -39,6 +39,10 @@ room-first p q h = record { room = omega (arith, length-append p q) }
 pub room-more : {p before after : List ℕ} {at end : ℕ} (q : List ℕ) → Puts p before at after end → Room (p ++ q) at before → Room q end after
 room-more {p} q l h = record { room = omega (arith, length-append p q, l .ends, puts-length l) }
 
+-- room for all of a text is room for its next part
+pub room-next : {p all before middle : List ℕ} {at end : ℕ} (q : List ℕ) → Puts p before at middle end → Room all at before → length (p ++ q) ≤ length all → Room q end middle
+room-next {p} q l r h = record { room = omega (arith, r .room, l .ends, puts-length l, length-append p q) }
+
 -- a number's text, as decimalwrite puts it
 pub puts-number : {n at past : ℕ} {before after : List ℕ} → Writes (pos n) at before after past → Puts (decimalOf (pos n)) before at after past
 puts-number w = record { ends = w .ends; content = w .content }
