@@ -4,7 +4,7 @@ use Prim.Native.Nat.{ℕ, zero, suc, _/_, _≤_, _<_}
 use native.Mathlib.Omega.{arith}
 use native.Mathlib.Decide.{decLe}
 use lib.IntN.{ℤ}
-use lib.ListN.{length, getD}
+use lib.ListN.{length}
 use Rattle.walkgraph.specs.Links.{Numbered}
 use Rattle.walkgraph.specs.FieldsPromise.{JoinInput, JoinLent, AnswersAre, FieldsPromise, joined, joins}
 use Rattle.walkgraph.proofs.Tests.{by-cases}
