@@ -50,7 +50,7 @@ drawn-put i {after = d} {window = window} {sweeps = sweeps} p s =
 
 -- ---- the line of a refusal
 module _ (number place : ℕ) (h : number ≤ 4294967295) (i : place ≤ 4294967295) where
-  line-short : length (refusalLine number place) ≤ 30
+  pub line-short : length (refusalLine number place) ≤ 30
   line-short = refusal-most 10 number place (omega arith) (omega arith) (omega arith)
 
   pub line-room : (page : List ℕ) → 200000 ≤ length page → Room (refusalLine number place) 0 page
