@@ -47,6 +47,8 @@ pub data Delivers (sheet before : List ℕ) : List ℕ → ℕ → Type 0 where
 pub record SheetPromise (text before after : List ℕ) (count : ℕ) : Type 0 where
   pub sheet : List ℕ
   pub is : SheetOf text sheet
+  -- so a buffer of 200,000 bytes is long enough for every text
+  pub short : length sheet ≤ 200000
   pub delivers : Delivers sheet before after count
 
 -- ---- inside the function
