@@ -76,7 +76,7 @@ module _ {r s : Room} (f : Formed r) (g : Formed s) where
       same p q t u = rw (p, q, t, u)
 
 -- ---- one reading for each text
-widths : {m n : ℕ} {ls ms : List (List ℕ)} → AllRows m ls → AllRows n ms → ls ≡ ms → 1 ≤ length ls → m ≡ n
+pub widths : {m n : ℕ} {ls ms : List (List ℕ)} → AllRows m ls → AllRows n ms → ls ≡ ms → 1 ≤ length ls → m ≡ n
 widths rows.nothing b e h = absurd (omega arith)
 widths (rows.more a others) rows.nothing e h = let z : _≡_ {A = ℕ} 0 1 = cc in absurd (omega arith)
 widths (rows.more {row = l} a others) (rows.more {row = k} b rest) e h = let q : l ≡ k = cc in sym (a .size) ∙ ap length q ∙ b .size

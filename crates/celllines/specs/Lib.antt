@@ -1,0 +1,2 @@
+-- The lines of cells.
+pub mod Costs

@@ -1,0 +1,2 @@
+-- The sheet of a room.
+pub mod Drawings

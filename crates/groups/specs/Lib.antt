@@ -1,0 +1,2 @@
+-- The fields of a room's resources.
+pub mod Groups

@@ -1,0 +1,3 @@
+-- The laws that the proofs of this crate and of those above it cite.
+pub mod Putting
+pub mod Lengths

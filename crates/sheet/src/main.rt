@@ -1,0 +1,23 @@
+// The program: reads a room text from standard input and writes its sheet, or the line of its refusal, to standard output.
+use libc::STDIN_FILENO;
+use libc::STDOUT_FILENO;
+ghost use Prim.Native.Nat.{_≤_};
+ghost use lib.ListN.{length, take};
+ghost use Rattle.sheets.specs.SheetText.{SheetOf};
+
+// Puts the sheet of a text at the start of a buffer that has room for every sheet; answers how many bytes it has.
+fn answer(text: &[u8], out: &mut [u8]) -> usize
+    requires { ⌜ 200000 ≤ length (now out) ⌝ }
+    ensures { λ r. ⌜ SheetOf (now (text .entry)) (take r (now (out .exit))) × (r ≤ length (now (out .exit))) ⌝ }
+{
+    sheets::sheet(text, out)
+}
+
+// A room text has at most 8,192 bytes, so one byte more tells that there are too many.
+fn main() {
+    let mut text = [0u8; 8193];
+    let mut out = [0u8; 200000];
+    let count = io::read_full(STDIN_FILENO, &mut text);
+    let end = answer(&text[..count], &mut out);
+    io::write_all(STDOUT_FILENO, &out[..end]);
+}

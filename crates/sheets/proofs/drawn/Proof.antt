@@ -1,0 +1,140 @@
+-- `sheets::drawn`: the parts of the buffers are in them, and the four numbers of the target box are read as they stand.
+use mathlib.Core.Path.{sym}
+use Prim.Native.Nat.{_+_, _*_}
+use native.Mathlib.Omega.{arith}
+use lib.IntN.{pos}
+use lib.ListN.{getD}
+use lib.Seq.{length-take-le}
+use mir.Syntax.{w32}
+use mir.ValLaws.{toZ-ofZ}
+use borrow.Author.Needs.{needs, sfits-of}
+use Rattle.walkgraph.specs.Painting.{rectangle}
+use Rattle.sheets.proofs.Rooms.{read-area, part-is}
+use Rattle.sheets.proofs.drawn.Statement.{statement}
+use Rattle.sheets.proofs.drawn.Tie as tie
+
+mul-from : tie.Need-mul-from
+mul-from c = search needs
+
+add-to : tie.Need-add-to
+add-to c = search needs
+
+mul-to : tie.Need-mul-to
+mul-to c = search needs
+
+cast-draw : tie.Need-cast-draw
+cast-draw c = search needs
+
+cast-draw-2 : tie.Need-cast-draw-2
+cast-draw-2 c = search needs
+
+mul-draw : tie.Need-mul-draw
+mul-draw c = record { fits = omega (arith, read-area (c .before .before .before .pre)) }
+
+slice-aggregate-draw : tie.Need-slice-aggregate-draw
+slice-aggregate-draw c =
+    let b = c .before .before .before .before in
+    sym (length-take-le _ (b .args .cells .now) (omega (arith, read-area (b .pre), b .pre .cells-room)))
+
+slice-aggregate-draw-2 : tie.Need-slice-aggregate-draw-2
+slice-aggregate-draw-2 c =
+    let b = c .before .before .before .before .before in
+    sym (length-take-le _ (b .args .numbers .now) (omega (arith, b .pre .painted, b .pre .numbers-room)))
+
+mul-draw-2 : tie.Need-mul-draw-2
+mul-draw-2 c = search needs
+
+sub-draw : tie.Need-sub-draw
+sub-draw c = search needs
+
+part-draw-start : tie.Need-part-draw-start
+part-draw-start c = search needs
+
+part-draw-end : tie.Need-part-draw-end
+part-draw-end c = search needs
+
+mul-draw-3 : tie.Need-mul-draw-3
+mul-draw-3 c = search needs
+
+shared-slice-copy-out-draw : tie.Need-shared-slice-copy-out-draw
+shared-slice-copy-out-draw c = search needs
+
+add-draw : tie.Need-add-draw
+add-draw c = search needs
+
+mul-draw-4 : tie.Need-mul-draw-4
+mul-draw-4 c = search needs
+
+shared-slice-copy-out-draw-2 : tie.Need-shared-slice-copy-out-draw-2
+shared-slice-copy-out-draw-2 c = search needs
+
+add-draw-2 : tie.Need-add-draw-2
+add-draw-2 c = search needs
+
+mul-draw-5 : tie.Need-mul-draw-5
+mul-draw-5 c = search needs
+
+shared-slice-copy-out-draw-3 : tie.Need-shared-slice-copy-out-draw-3
+shared-slice-copy-out-draw-3 c = search needs
+
+add-draw-3 : tie.Need-add-draw-3
+add-draw-3 c = search needs
+
+mul-draw-6 : tie.Need-mul-draw-6
+mul-draw-6 c = search needs
+
+shared-slice-copy-out-draw-4 : tie.Need-shared-slice-copy-out-draw-4
+shared-slice-copy-out-draw-4 c = search needs
+
+draw-requires : tie.Need-draw-requires
+draw-requires c κs =
+    let f = c .before .before .before .before .before .before .before .before .before .before .pre in
+    record { columns = f .columns; rows = f .rows; room = f .page-room }
+
+same-length : tie.Need-same-length
+same-length c = search needs
+
+returns : tie.Need-returns
+unfolding rectangle
+returns c =
+    let b = c .before .before .before .before .before .before .before .before .before .before .before .before .before in
+    let l = b .args .numbers .now in
+    let at = 4 * (b .args .blockers + b .args .resources) in
+    rw (
+      part-is (4 * b .args .blockers) at l,
+      toZ-ofZ w32 (getD l at (pos 0)) (sfits-of (c .before .before .before .before .before .before .draw-arg5 .given)),
+      toZ-ofZ w32 (getD l (at + 1) (pos 0)) (sfits-of (c .before .before .before .before .before .draw-arg6 .given)),
+      toZ-ofZ w32 (getD l (at + 2) (pos 0)) (sfits-of (c .before .before .before .before .draw-arg7 .given)),
+      toZ-ofZ w32 (getD l (at + 3) (pos 0)) (sfits-of (c .before .before .before .draw-arg8 .given)),
+    ) at (c .before .before .draw .ensures)
+
+pub drawn-spec : {M : Type 1} → statement M
+drawn-spec =
+    tie.close
+    (tie.spec
+    mul-from
+    add-to
+    mul-to
+    cast-draw
+    cast-draw-2
+    mul-draw
+    slice-aggregate-draw
+    slice-aggregate-draw-2
+    mul-draw-2
+    sub-draw
+    part-draw-start
+    part-draw-end
+    mul-draw-3
+    shared-slice-copy-out-draw
+    add-draw
+    mul-draw-4
+    shared-slice-copy-out-draw-2
+    add-draw-2
+    mul-draw-5
+    shared-slice-copy-out-draw-3
+    add-draw-3
+    mul-draw-6
+    shared-slice-copy-out-draw-4
+    draw-requires
+    same-length
+    returns)

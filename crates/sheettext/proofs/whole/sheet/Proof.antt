@@ -1,0 +1,23 @@
+-- `sheettext::whole::sheet`: the lines before the target cells, those of the cells, and those after them, with room for the most that each can be.
+use borrow.Author.Needs.{needs}
+use Rattle.sheettext.proofs.Sheets.{sheet-head, sheet-targets, sheet-groups, sheet-all}
+use Rattle.sheettext.proofs.whole.sheet.Statement.{statement}
+use Rattle.sheettext.proofs.whole.sheet.Tie as tie
+
+head-requires : tie.Need-head-requires
+head-requires c κs = sheet-head (c .before .before .before .pre)
+
+rows-requires : tie.Need-rows-requires
+rows-requires c κs = sheet-targets (c .before .before .before .before .before .before .before .pre) (c .before .before .before .before .before .before .before .args .lanes .now) (c .before .before .before .head .ensures)
+
+groups-requires : tie.Need-groups-requires
+groups-requires c κs = sheet-groups (c .before .before .before .before .before .before .before .before .before .before .before .pre) (c .before .before .before .before .before .before .before .before .before .before .before .args .lanes .now) (c .before .before .before .before .before .before .before .head .ensures) (c .before .before .before .rows .ensures)
+
+same-length : tie.Need-same-length
+same-length c = search needs
+
+returns : tie.Need-returns
+returns c = sheet-all (c .before .before .before .before .before .before .before .before .before .before .before .before .before .before .pre) (c .before .before .before .before .before .before .before .before .before .before .before .before .before .before .args .lanes .now) (c .before .before .before .before .before .before .before .before .before .before .head .ensures) (c .before .before .before .before .before .before .rows .ensures) (c .before .before .groups .ensures)
+
+pub sheet-spec : {M : Type 1} → statement M
+sheet-spec = tie.close (tie.spec head-requires rows-requires groups-requires same-length returns)

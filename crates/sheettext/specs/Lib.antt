@@ -1,0 +1,2 @@
+-- The whole sheet as text.
+pub mod Sheets
