@@ -8,6 +8,7 @@ use lib.IntN.{pos}
 use lib.ListN.{length, length-append}
 use Rattle.decimal.specs.Numbers.{digitsOf, decimalOf}
 use Rattle.decimal.proofs.Digits.{by-cases, length-small, length-large}
+use Rattle.page.specs.Puts.{Room}
 use Rattle.page.specs.Lines.{numberThen, fourLine, windowWord, windowLine, sweepsWord, sweepsLine, cellsWord, cellsLine, groupsWord, groupsLine, wordLine, fieldLine, refusedWord, refusalLine}
 
 -- a number below 10 ^ k has k digits at most
@@ -67,3 +68,7 @@ pub refusal-most : (k number place : ℕ) → 0 < k → number < 10 ^ k → plac
 unfolding refusedWord refusalLine
 refusal-most k number place h p q =
     omega (arith, length-append (numberThen number 32) (numberThen place 10), then-most k number 32 h p, then-most k place 10 h q)
+
+-- a refusal's two numbers are u32: 30 bytes are enough
+pub refusal-room : (number place at : ℕ) (page : List ℕ) → number < 4294967296 → place < 4294967296 → at + 30 ≤ length page → Room (refusalLine number place) at page
+refusal-room number place at page p q h = record { room = omega (arith, refusal-most 10 number place (omega arith) (omega arith) (omega arith)) }
