@@ -9,7 +9,7 @@ use lib.ListN.{length, length-append}
 use Rattle.decimal.specs.Numbers.{digitsOf, decimalOf}
 use Rattle.decimal.proofs.Digits.{by-cases, length-small, length-large}
 use Rattle.page.specs.Puts.{Room}
-use Rattle.page.specs.Lines.{numberThen, fourLine, windowWord, windowLine, sweepsWord, sweepsLine, cellsWord, cellsLine, groupsWord, groupsLine, wordLine, fieldLine, refusedWord, refusalLine}
+use Rattle.page.specs.Lines.{numberThen, fourLine, windowWord, windowLine, sweepsWord, sweepsLine, cellsWord, cellsLine, groupsWord, groupsLine, wordLine, refusedWord, refusalLine}
 
 -- a number below 10 ^ k has k digits at most
 digits-most : (k n : ℕ) → n < 10 ^ suc k → length (digitsOf n) ≤ suc k
@@ -59,10 +59,6 @@ module _ (k n : ℕ) where
   pub groups-most : 0 < k → n < 10 ^ k → length (groupsLine n) ≤ 7 + (k + 1)
   unfolding groupsWord groupsLine
   groups-most h i = word-most k groupsWord n h i
-
-  pub field-most : 0 < k → n < 10 ^ k → length (fieldLine n) ≤ k + 1
-  unfolding fieldLine
-  field-most h i = then-most k n 10 h i
 
 pub refusal-most : (k number place : ℕ) → 0 < k → number < 10 ^ k → place < 10 ^ k → length (refusalLine number place) ≤ 8 + 2 * (k + 1)
 unfolding refusedWord refusalLine

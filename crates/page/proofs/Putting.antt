@@ -13,9 +13,6 @@ use Rattle.page.specs.Puts.{Puts, Room}
 pub puts-none : (before : List ℕ) (at : ℕ) → Puts [] before at before at
 puts-none before at = record { ends = omega arith; content = refl }
 
-pub puts-byte : (before : List ℕ) (at byte : ℕ) → Puts (byte ∷ []) before at (set before at byte) (at + 1)
-puts-byte before at byte = record { ends = omega arith; content = refl }
-
 sets-append : (l : List ℕ) (i : ℕ) (p q : List ℕ) → sets l i (p ++ q) ≡ sets (sets l i p) (i + length p) q
 sets-append l i [] q = let e : i + 0 ≡ i = omega arith in rw e
 sets-append l i (a ∷ p) q = let e : i + suc (length p) ≡ suc i + length p = omega arith in rw e (sets-append (set l i a) (suc i) p q)
