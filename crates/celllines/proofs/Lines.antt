@@ -63,7 +63,7 @@ module _ (part : List ℤ) where
   costs-room l n h = rw (sym (in-order-more (costAt part) l)) (in-order-up (costAt part) (l + 1) n (omega arith))
 
 -- ---- how long they are at most
-pub cost-most : (lane : ℤ) → length (costText lane) ≤ 5
+cost-most : (lane : ℤ) → length (costText lane) ≤ 5
 unfolding costText costBytes costOf
 cost-most lane =
     cond-ind (λ (held : Cost). length (costBytes held) ≤ 5) (leb 17534 (level lane) && ltb (level lane) 65535)
@@ -73,11 +73,11 @@ cost-most lane =
     number-most 5 (halfCostOf (bias 96) lane) (omega arith) (omega (arith, half-level lane from)))
     (λ t. omega arith)
 
-pub at-most : (part : List ℤ) (l : ℕ) → length (costAt part l) ≤ 6
+at-most : (part : List ℤ) (l : ℕ) → length (costAt part l) ≤ 6
 unfolding costAt
 at-most part l = omega (arith, cost-most (getD part l (pos 32767)))
 
-pub costs-most : (part : List ℤ) (n : ℕ) → length (costTexts part n) ≤ n * 6
+costs-most : (part : List ℤ) (n : ℕ) → length (costTexts part n) ≤ n * 6
 unfolding costTexts
 costs-most part n = in-order-most (costAt part) 6 n (λ k h. at-most part k)
 

@@ -8,7 +8,8 @@ use lib.IntN.{pos}
 use lib.ListN.{length, length-append}
 use Rattle.decimal.specs.Numbers.{digitsOf, decimalOf}
 use Rattle.decimal.proofs.Digits.{by-cases, length-small, length-large}
-use Rattle.page.specs.Lines.{numberThen, fourLine, windowWord, windowLine, sweepsWord, sweepsLine, cellsWord, cellsLine, groupsWord, groupsLine, wordLine, fieldLine, refusedWord, refusalLine}
+use Rattle.page.specs.Puts.{Room}
+use Rattle.page.specs.Lines.{numberThen, fourLine, windowWord, windowLine, sweepsWord, sweepsLine, cellsWord, cellsLine, groupsWord, groupsLine, wordLine, refusedWord, refusalLine}
 
 -- a number below 10 ^ k has k digits at most
 digits-most : (k n : ℕ) → n < 10 ^ suc k → length (digitsOf n) ≤ suc k
@@ -59,11 +60,11 @@ module _ (k n : ℕ) where
   unfolding groupsWord groupsLine
   groups-most h i = word-most k groupsWord n h i
 
-  pub field-most : 0 < k → n < 10 ^ k → length (fieldLine n) ≤ k + 1
-  unfolding fieldLine
-  field-most h i = then-most k n 10 h i
-
 pub refusal-most : (k number place : ℕ) → 0 < k → number < 10 ^ k → place < 10 ^ k → length (refusalLine number place) ≤ 8 + 2 * (k + 1)
 unfolding refusedWord refusalLine
 refusal-most k number place h p q =
     omega (arith, length-append (numberThen number 32) (numberThen place 10), then-most k number 32 h p, then-most k place 10 h q)
+
+-- a refusal's two numbers are u32: 30 bytes are enough
+pub refusal-room : (number place at : ℕ) (page : List ℕ) → number < 4294967296 → place < 4294967296 → at + 30 ≤ length page → Room (refusalLine number place) at page
+refusal-room number place at page p q h = record { room = omega (arith, refusal-most 10 number place (omega arith) (omega arith) (omega arith)) }

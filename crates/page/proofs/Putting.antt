@@ -5,16 +5,13 @@ use Prim.Native.Nat.{ℕ, suc, _+_, _≤_, _<_}
 use native.Mathlib.Numerals.{add-one}
 use native.Mathlib.Omega.{arith}
 use lib.IntN.{pos}
-use lib.ListN.{length, set, take, getD, length-append}
-use lib.Seq.{sets, length-sets, length-take-le, take-suc, take-length}
+use lib.ListN.{length, set, take, drop, getD, length-append}
+use lib.Seq.{sets, sets-eq, take-append-seam, length-sets, length-take-le, take-suc, take-length}
 use Rattle.decimal.specs.Numbers.{decimalOf, Writes}
 use Rattle.page.specs.Puts.{Puts, Room}
 
 pub puts-none : (before : List ℕ) (at : ℕ) → Puts [] before at before at
 puts-none before at = record { ends = omega arith; content = refl }
-
-pub puts-byte : (before : List ℕ) (at byte : ℕ) → Puts (byte ∷ []) before at (set before at byte) (at + 1)
-puts-byte before at byte = record { ends = omega arith; content = refl }
 
 sets-append : (l : List ℕ) (i : ℕ) (p q : List ℕ) → sets l i (p ++ q) ≡ sets (sets l i p) (i + length p) q
 sets-append l i [] q = let e : i + 0 ≡ i = omega arith in rw e
@@ -31,6 +28,16 @@ puts-more {p} {q} {before} {middle} {after} {at} {end} {last} l m =
 -- the page is as long as before
 pub puts-length : {p before after : List ℕ} {at end : ℕ} → Puts p before at after end → length after ≡ length before
 puts-length {p} {before} {at = at} l = ap length (l .content) ∙ length-sets before at p
+
+-- text put at the start of a page is what stands there up to the next place
+pub puts-shows : {p before after : List ℕ} {end : ℕ} → Room p 0 before → Puts p before 0 after end → take end after ≡ p
+puts-shows {p} {before} {after} {end} r l =
+    let e : end ≡ length p = omega (arith, l .ends) in
+    rw (l .content, sets-eq p before 0 (r .room), e) (take-append-seam p (drop (0 + length p) before))
+
+-- no two results are what a text put on a page comes to
+pub puts-once : {p before after other : List ℕ} {at end past : ℕ} → Puts p before at after end → Puts p before at other past → (after ≡ other) × (end ≡ past)
+puts-once l m = (l .content ∙ sym (m .content), l .ends ∙ sym (m .ends))
 
 -- where there is room for two texts there is room for the first, and then for the other
 pub room-first : (p q : List ℕ) {at : ℕ} {page : List ℕ} → Room (p ++ q) at page → Room p at page

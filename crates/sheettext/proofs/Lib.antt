@@ -1,2 +1,3 @@
 -- The laws that the proofs of this crate and of those above it cite.
 pub mod Sheets
+pub mod Example

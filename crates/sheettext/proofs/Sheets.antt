@@ -5,7 +5,7 @@ use Prim.Native.Nat.{ℕ, _+_, _*_, _-_, _≤_, _<_}
 use native.Mathlib.Nat.{mul-le-mul}
 use native.Mathlib.Omega.{arith}
 use lib.IntN.{ℤ}
-use lib.ListN.{length, getD, length-append}
+use lib.ListN.{length, take, getD, length-append}
 use Rattle.walkgraph.specs.Map.{Box}
 use Rattle.walkgraph.specs.Reading.{WindowRecord, readPart}
 use Rattle.cells.specs.Boxes.{InMap}
@@ -14,7 +14,7 @@ use Rattle.ringlists.specs.Places.{inOrder}
 use Rattle.ringlists.proofs.Places.{in-order-more, in-order-up, in-order-most}
 use Rattle.page.specs.Puts.{Puts}
 use Rattle.page.specs.Lines.{windowLine, sweepsLine, cellsLine, fieldLine}
-use Rattle.page.proofs.Putting.{puts-none, puts-more, puts-length}
+use Rattle.page.proofs.Putting.{puts-none, puts-more, puts-length, puts-shows}
 use Rattle.page.proofs.Lengths.{window-most, sweeps-most, cells-most}
 use Rattle.celllines.proofs.Lines.{cell-most}
 use Rattle.sheettext.specs.Sheets.{lineAt, rowLines, targetLines, targetCells, headLines, fieldLines, groupLines, sheetText, TargetRoom, HeadRoom, GroupsRoom, SheetRoom, PutsWithin}
@@ -111,6 +111,10 @@ within-most n h l = record { puts = l .puts; short = omega (arith, l .short) }
 -- text that is short
 pub within-length : (most : ℕ) {p before after : List ℕ} {at end : ℕ} → length p ≤ most → Puts p before at after end → PutsWithin most p before at after end
 within-length most h l = record { puts = l; short = omega (arith, l .ends) }
+
+-- text at the start of a page that is long enough is what stands there up to the next place
+pub within-shows : {most : ℕ} {p before after : List ℕ} {end : ℕ} → most ≤ length before → PutsWithin most p before 0 after end → take end after ≡ p
+within-shows h l = puts-shows (record { room = omega (arith, l .short, l .puts .ends) }) (l .puts)
 
 -- ---- the whole sheet
 module _ {window : WindowRecord} {sweeps : ℕ} {targets : Box} {resources groups : ℕ} {fields page : List ℕ} (s : SheetRoom window sweeps targets resources groups fields page) where
