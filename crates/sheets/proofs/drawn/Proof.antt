@@ -39,7 +39,7 @@ slice-aggregate-draw c =
 slice-aggregate-draw-2 : tie.Need-slice-aggregate-draw-2
 slice-aggregate-draw-2 c =
     let b = c .before .before .before .before .before in
-    sym (length-take-le _ (b .args .numbers .now) (omega (arith, b .pre .painted, b .pre .few, b .pre .numbers-room)))
+    sym (length-take-le _ (b .args .numbers .now) (omega (arith, b .pre .painted, b .pre .numbers-room)))
 
 mul-draw-2 : tie.Need-mul-draw-2
 mul-draw-2 c = search needs
