@@ -1,7 +1,7 @@
 // The program: reads a room text from standard input and writes its sheet, or the line of its refusal, to standard output.
 use libc::STDIN_FILENO;
 use libc::STDOUT_FILENO;
-ghost use Prim.Native.Nat.{_≤_};
+ghost use Prim.Native.Nat.{_≤_, _<_};
 ghost use lib.ListN.{length, take};
 ghost use Rattle.sheets.specs.SheetText.{SheetOf};
 
@@ -13,11 +13,18 @@ fn answer(text: &[u8], out: &mut [u8]) -> usize
     sheets::sheet(text, out)
 }
 
-// A room text has at most 8,192 bytes, so one byte more tells that there are too many.
+// Reads standard input up to its end, or up to one byte more than the 8,192 that a room text has at most; answers how many bytes came.
+fn taken(text: &mut [u8]) -> usize
+    requires { ⌜ 8192 < length (now text) ⌝ }
+    ensures { λ r. ⌜ r ≤ length (now (text .exit)) ⌝ }
+{
+    io::read_full(STDIN_FILENO, text)
+}
+
 fn main() {
     let mut text = [0u8; 8193];
     let mut out = [0u8; 200000];
-    let count = io::read_full(STDIN_FILENO, &mut text);
+    let count = taken(&mut text);
     let end = answer(&text[..count], &mut out);
     io::write_all(STDOUT_FILENO, &out[..end]);
 }
