@@ -188,6 +188,18 @@ struct cerandool_count_answer cerandool_fields(
     size_t answers_length    /*     from 0 by smallest member */
 );
 
+/*
+ * The sheet of a room text, or the one line of its refusal: the lines that program sheet prints. Gives
+ * back how many bytes were written to the start of out; the rest of it stays. 0 where out is too short,
+ * and then nothing is written: 200,000 bytes are enough for every text.
+ */
+size_t cerandool_sheet(
+    const uint8_t *text,
+    size_t text_length,
+    uint8_t *out,
+    size_t out_length
+);
+
 #ifdef __cplusplus
 }
 #endif

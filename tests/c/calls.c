@@ -510,6 +510,32 @@ static void fields_refusals(void) {
     }
 }
 
+/* document 01's room text, its sheet, and a buffer that is longer, just long enough, or too short */
+static const char ROOM[] = "3\n.....\n.....\n.....\n0\n1\n16 8 24 16\n1\n0 0 4 0\n";
+static const char SHEET[] = "window 0 0 5 3\nsweeps 2\ncells 5\n0 0 500\n1 0 0\n2 0 0\n3 0 0\n4 0 500\ngroups 1\n0\n";
+
+static void sheet_call(const char *call, const char *text, const char *want, size_t lent) {
+    uint8_t got[256], after[256];
+    size_t length = strlen(want);
+    size_t written = lent < length ? 0 : length;
+    memset(got, 0xA5, sizeof got);
+    memset(after, 0xA5, sizeof after);
+    memcpy(after, want, written);
+    same_number(call, "length", cerandool_sheet((const uint8_t *)text, strlen(text), got, lent), written);
+    same_entries(call, "out", got, after, 1, sizeof got);
+}
+
+static void sheets(void) {
+    size_t length = strlen(SHEET);
+    sheet_call("sheet", ROOM, SHEET, 200);
+    sheet_call("sheet, just long enough", ROOM, SHEET, length);
+    sheet_call("sheet, too short", ROOM, SHEET, length - 1);
+    sheet_call("sheet, nothing lent", ROOM, SHEET, 0);
+    sheet_call("sheet, no text", "", "refused 9 1\n", 200);
+    sheet_call("sheet, a bad resource", "1\n.\n0\n1\n0 0 9 8\n1\n0 0 0 0\n", "refused 4 0\n", 200);
+    sheet_call("sheet, a bad target box", "1\n.\n0\n0\n1\n0 0 1 0\n", "refused 6 0\n", 200);
+}
+
 int main(void) {
     field_made();
     field_nothing();
@@ -519,10 +545,11 @@ int main(void) {
     access_of_many();
     fields_joined();
     fields_refusals();
+    sheets();
     if (differences != 0) {
         printf("%u of %u numbers differ\n", differences, compared);
         return 1;
     }
-    printf("%u numbers of the five exports are document 01's\n", compared);
+    printf("%u numbers of the six exports are document 01's\n", compared);
     return 0;
 }

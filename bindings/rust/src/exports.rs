@@ -142,6 +142,13 @@ unsafe extern "C" {
         answers: *mut u16,
         answers_length: usize,
     ) -> CountAnswer;
+
+    fn cerandool_sheet(
+        text: *const u8,
+        text_length: usize,
+        out: *mut u8,
+        out_length: usize,
+    ) -> usize;
 }
 
 /// The buffers that a field call is lent. With a window of W by H and P = (W+2)(H+2) it needs P
@@ -302,4 +309,11 @@ pub fn fields(grid: &Grid, indices: &[u32], ends: &[u32], buffers: FieldsBuffers
             buffers.answers.len(),
         )
     }
+}
+
+/// The sheet of a room text, or the line of its refusal, at the start of `out`: how many bytes. 0 where
+/// `out` is too short for it, and then nothing is written.
+pub fn sheet(text: &[u8], out: &mut [u8]) -> usize {
+    // Safety: each pointer comes with the length of its own slice, and the two do not overlap.
+    unsafe { cerandool_sheet(text.as_ptr(), text.len(), out.as_mut_ptr(), out.len()) }
 }

@@ -49,8 +49,10 @@ mod field;
 mod joining;
 mod map;
 mod refusal;
+mod sheet;
 
 pub use field::{HALF_CAP, ProximityField, Window, half_cost};
 pub use joining::{AccessLists, Fields, access_cells, access_lists, fields};
 pub use map::{CellBox, Grid, LARGEST_SIDE, MOST_BLOCKERS, MOST_RESOURCES, PixelRect};
 pub use refusal::Refusal;
+pub use sheet::{LONGEST_SHEET, sheet};

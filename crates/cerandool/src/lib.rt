@@ -1,4 +1,4 @@
-// The static library's exports, for C and for Rust: the field call, reading a cell, access of a rectangle and of many, and the fields call. None requires anything of what it is given.
+// The static library's exports, for C and for Rust: the field call, reading a cell, access of a rectangle and of many, the fields call, and the sheet of a room text. None requires anything of what it is given.
 use access;
 use accesslists;
 use field;
@@ -8,6 +8,7 @@ use numbers::CountAnswer;
 use numbers::FieldAnswer;
 use reading;
 use reading::Part;
+use sheets;
 use window::record::Window;
 ghost use mathlib.Core.Path.{_≡_};
 ghost use lib.ListN.{length};
@@ -21,6 +22,7 @@ ghost use Rattle.seeds.specs.Sown as sown;
 ghost use Rattle.fields.specs.Answers as fields;
 ghost use Rattle.accesslists.specs.Listing as lists;
 ghost use Rattle.cerandool.specs.Exports.{FieldExported, recordFrom, AccessExported, AccessListsExported, FieldsExported};
+ghost use Rattle.sheets.specs.Promise.{SheetPromise};
 
 // The field of resources around a target box, on a map of walk cells painted with blockers.
 #[no_mangle]
@@ -159,4 +161,12 @@ pub extern "C" fn cerandool_fields(
         answers,
     );
     numbers::fields_numbers(answer)
+}
+
+// The sheet of a room text, or the line of its refusal, at the start of a buffer: how many bytes, and 0 where the buffer is too short for it, which is then left as it is.
+#[no_mangle]
+pub extern "C" fn cerandool_sheet(text: &[u8], out: &mut [u8]) -> usize
+    ensures { λ r. ⌜ SheetPromise (now (text .entry)) (now (out .entry)) (now (out .exit)) r ⌝ }
+{
+    sheets::sheet(text, out)
 }

@@ -6,7 +6,8 @@ use native.Mathlib.Omega.{arith}
 use lib.ListN.{length, take, drop, length-append}
 use lib.Seq.{sets, sets-eq, take-at}
 use Rattle.page.specs.Puts.{Puts, Room}
-use Rattle.sheets.specs.SheetText.{SheetOf, Delivers, written, too-short, SheetPromise, PutsSheet}
+use Rattle.roomsheet.specs.SheetText.{SheetOf, PutsSheet}
+use Rattle.sheets.specs.Promise.{Delivers, written, too-short, SheetPromise}
 
 -- bytes put at the start of a list
 front : (before bytes : List ℕ) → length bytes ≤ length before → sets before 0 bytes ≡ bytes ++ drop (length bytes) before

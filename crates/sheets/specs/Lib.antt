@@ -1,2 +1,2 @@
--- The sheet of any text.
-pub mod SheetText
+-- What the library function promises.
+pub mod Promise

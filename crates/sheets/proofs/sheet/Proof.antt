@@ -10,15 +10,18 @@ use Rattle.sheets.proofs.sheet.Statement.{statement}
 use Rattle.sheets.proofs.sheet.Tie as tie
 
 -- the page has room
+enough : (n : ℕ) → 200000 ≤ n → 200000 ≤ length (replicate {A = ℕ} n 0)
+enough n h = rw (length-replicate {A = ℕ} n 0) h
+
 room : 200000 ≤ length (replicate {A = ℕ} 200000 0)
-room = omega (arith, length-replicate {A = ℕ} 200000 0)
+room = enough 200000 (omega arith)
 
 -- the sheet ends on it
 on-page : (c : tie.After-written) → c .written .result ≤ length (c .written .last .1 .0)
-on-page c = omega (arith, end-on-page (c .written .ensures) room, c .written .kept .1 .0)
+on-page c = rw (c .written .kept .1 .0) (end-on-page (c .written .ensures) room)
 
 slice-aggregate-written : tie.Need-slice-aggregate-written
-slice-aggregate-written c = search needs
+slice-aggregate-written c = sym (length-replicate {A = ℕ} 200000 0)
 
 written-requires : tie.Need-written-requires
 written-requires c κs = room

@@ -1,10 +1,10 @@
--- Document 01, "Room text and the program": the sheet of any text, and what the library function promises.
+-- Document 01, "Room text and the program": the sheet of any text.
 use mathlib.Core.Path.{_≡_}
 use mathlib.Core.Bool.{Bool, true, false}
-use mathlib.Core.List.{List, _++_}
+use mathlib.Core.List.{List}
 use Prim.Native.Nat.{ℕ, _+_, _*_, _≤_, _<_}
 use lib.IntN.{ℤ}
-use lib.ListN.{length, take, drop}
+use lib.ListN.{length, take}
 use lib.Seq.{slice}
 use Rattle.walkgraph.specs.Painting.{rectangle}
 use Rattle.walkgraph.specs.Refusals.{FieldInput}
@@ -38,20 +38,7 @@ pub data SheetOf (text : List ℕ) : List ℕ → Type 0 where
   room-sheet : {sheet : List ℕ} → length text ≤ 8192 → (room : Room) (formed : Formed room) → text ≡ roomText room → inside room formed ≡ true → Drawing (fieldInput room formed) sheet →
       SheetOf text sheet
 
--- ---- the library function: the buffer held `before`, and the answer is how many bytes were written
-pub data Delivers (sheet before : List ℕ) : List ℕ → ℕ → Type 0 where
-  written : length sheet ≤ length before → Delivers sheet before (sheet ++ drop (length sheet) before) (length sheet)
-  -- a buffer shorter than the sheet: nothing is written
-  too-short : length before < length sheet → Delivers sheet before before 0
-
-pub record SheetPromise (text before after : List ℕ) (count : ℕ) : Type 0 where
-  pub sheet : List ℕ
-  pub is : SheetOf text sheet
-  -- so a buffer of 200,000 bytes is long enough for every text
-  pub short : length sheet ≤ 200000
-  pub delivers : Delivers sheet before after count
-
--- ---- inside the function
+-- ---- on a page
 
 -- a sheet put on a page
 pub record PutsSheet (text before after : List ℕ) (end : ℕ) : Type 0 where

@@ -1,4 +1,4 @@
--- `sheets::drawn`: the parts of the buffers are in them, and the four numbers of the target box are read as they stand.
+-- `roomsheet::drawn`: the parts of the buffers are in them, and the four numbers of the target box are read as they stand.
 use mathlib.Core.Path.{sym}
 use Prim.Native.Nat.{_+_, _*_}
 use native.Mathlib.Omega.{arith}
@@ -9,9 +9,9 @@ use mir.Syntax.{w32}
 use mir.ValLaws.{toZ-ofZ}
 use borrow.Author.Needs.{needs, sfits-of}
 use Rattle.walkgraph.specs.Painting.{rectangle}
-use Rattle.sheets.proofs.Rooms.{read-area, part-is}
-use Rattle.sheets.proofs.drawn.Statement.{statement}
-use Rattle.sheets.proofs.drawn.Tie as tie
+use Rattle.roomsheet.proofs.Rooms.{read-area, part-is}
+use Rattle.roomsheet.proofs.drawn.Statement.{statement}
+use Rattle.roomsheet.proofs.drawn.Tie as tie
 
 mul-from : tie.Need-mul-from
 mul-from c = search needs

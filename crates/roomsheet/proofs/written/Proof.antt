@@ -1,4 +1,4 @@
--- `sheets::written`: the verdict on the text is a refusal, whose line is put, or a room, whose sheet is.
+-- `roomsheet::written`: the verdict on the text is a refusal, whose line is put, or a room, whose sheet is.
 use mathlib.Core.List.{List}
 use Prim.Native.Nat.{ℕ}
 use native.Mathlib.Omega.{arith}
@@ -9,9 +9,9 @@ use borrow.Author.Needs.{needs}
 use Rattle.roomtext.specs.Verdicts.{accepted, refused, JudgesText}
 use Rattle.roomtext.specs.Answers.{verdictOf}
 use Rattle.drawing.proofs.Shows.{line-room}
-use Rattle.sheets.proofs.Rooms.{refused-put, read-fits, drawn-sheet}
-use Rattle.sheets.proofs.written.Statement.{statement}
-use Rattle.sheets.proofs.written.Tie as tie
+use Rattle.roomsheet.proofs.Rooms.{refused-put, read-fits, drawn-sheet}
+use Rattle.roomsheet.proofs.written.Statement.{statement}
+use Rattle.roomsheet.proofs.written.Tie as tie
 
 -- the buffers before and after the text is read
 abbrev zeroCells : List ℕ

@@ -19,7 +19,7 @@ use Rattle.page.specs.Puts.{Puts}
 use Rattle.page.specs.Lines.{refusalLine}
 use Rattle.drawing.specs.Drawings.{PutsDrawing}
 use Rattle.drawing.proofs.Shows.{line-short}
-use Rattle.sheets.specs.SheetText.{inside, fieldInput, SheetOf, too-many-bytes, breaks-form, too-large, room-sheet, PutsSheet, readInput, ReadFits}
+use Rattle.roomsheet.specs.SheetText.{inside, fieldInput, SheetOf, too-many-bytes, breaks-form, too-large, room-sheet, PutsSheet, readInput, ReadFits}
 
 -- a part as it is lent: behind those before it, as many as it has
 pub part-is : (from to : ℕ) (l : List ℤ) → take (to - from) (drop from l) ≡ slice from to l

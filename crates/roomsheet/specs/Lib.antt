@@ -1,0 +1,2 @@
+-- The sheet of any text.
+pub mod SheetText
