@@ -191,7 +191,7 @@ struct cerandool_count_answer cerandool_fields(
 /*
  * The sheet of a room text, or the one line of its refusal: the lines that program sheet prints. Gives
  * back how many bytes were written to the start of out; the rest of it stays. 0 where out is too short,
- * and then nothing is written: 200,000 bytes are enough for every text.
+ * and then nothing is written: 200,000 bytes are enough for every text. It takes some 440 KiB of stack.
  */
 size_t cerandool_sheet(
     const uint8_t *text,
