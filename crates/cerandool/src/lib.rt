@@ -1,4 +1,5 @@
-// The static library's exports, for C and for Rust: the field call, reading a cell, access of a rectangle and of many, the fields call, and the sheet of a room text. None requires anything of what it is given.
+// The static library's exports, for C and for Rust: the field call, reading a cell, access of a rectangle and of many,
+// the fields call, and the sheet of a room text. None requires anything of what it is given.
 use access;
 use accesslists;
 use field;

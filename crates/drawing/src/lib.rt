@@ -24,7 +24,8 @@ fn shown(
     lanes: &[i16],
 ) -> usize
     requires { ⌜ ShownFits width height (now cells) (now resources) (asRecord window) sweeps (boxOf targets) (now page) ⌝ }
-    ensures { λ r. ⌜ PutsShown width height (now (cells .entry)) (now (resources .entry)) (asRecord window) sweeps (boxOf targets) (now (lanes .entry)) (now (page .entry)) (now (page .exit)) r ⌝ }
+    ensures { λ r. ⌜ PutsShown width height (now (cells .entry)) (now (resources .entry)) (asRecord window) sweeps (boxOf targets) (now (lanes .entry))
+        (now (page .entry)) (now (page .exit)) r ⌝ }
 {
     let mut answers: [u16; 8] = [0; 8];
     let fields = groups::groups(width, height, cells, resources, &mut answers);
@@ -67,7 +68,8 @@ pub fn draw(
     bottom: i32,
 ) -> usize
     requires { ⌜ DrawFits width height (now page) ⌝ }
-    ensures { λ r. ⌜ PutsDrawing (inputOf width height (now (cells .entry)) 8 (now (blockers .entry)) (now (resources .entry)) (corners left top right bottom)) (now (page .entry)) (now (page .exit)) r ⌝ }
+    ensures { λ r. ⌜ PutsDrawing (inputOf width height (now (cells .entry)) 8 (now (blockers .entry)) (now (resources .entry)) (corners left top right bottom))
+        (now (page .entry)) (now (page .exit)) r ⌝ }
 {
     let mut lanes: [i16; 30752] = [0; 30752];
     let mut walk: [u8; 3844] = [0; 3844];

@@ -1,4 +1,5 @@
-// Which resources of a room are one field: their access cells are listed, and the fields call is given the lists. Both calls work in arrays of zeros that have room for any room that the program takes.
+// Which resources of a room are one field: their access cells are listed, and the fields call is given the lists.
+// Both calls work in arrays of zeros that have room for any room that the program takes.
 use accesslists::call as lists;
 use accesslists::call::Answer as Lists;
 use fields::call as join;

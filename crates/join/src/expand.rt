@@ -19,7 +19,8 @@ pub fn expand(
     picked: &mut [u8; 9],
 ) -> usize
     requires { ⌜ Turning width height (now states) (now queue) (now parents) (now ranks) (now over) (now down) (now steps) (now picked) tail head ⌝ }
-    ensures { λ r. ⌜ Expanded width height (now (states .entry)) (now (parents .entry)) (now (states .exit)) (now (queue .exit)) (now (parents .exit)) (now (ranks .exit)) (now (picked .exit)) r head ⌝ }
+    ensures { λ r. ⌜ Expanded width height (now (states .entry)) (now (parents .entry))
+        (now (states .exit)) (now (queue .exit)) (now (parents .exit)) (now (ranks .exit)) (now (picked .exit)) r head ⌝ }
 {
     let point = queue[head];
     let x = (point % 1024) as usize;

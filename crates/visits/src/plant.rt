@@ -15,7 +15,8 @@ pub fn plant(
     point: u32,
 ) -> usize
     requires { ⌜ MayPlant (now states) (now queue) (now parents) (now ranks) tail label index ⌝ }
-    ensures { λ r. ⌜ Planted (now (states .entry)) (now (queue .entry)) (now (parents .entry)) (now (ranks .entry)) tail label index point (now (states .exit)) (now (queue .exit)) (now (parents .exit)) (now (ranks .exit)) r ⌝ }
+    ensures { λ r. ⌜ Planted (now (states .entry)) (now (queue .entry)) (now (parents .entry)) (now (ranks .entry)) tail label index point
+        (now (states .exit)) (now (queue .exit)) (now (parents .exit)) (now (ranks .exit)) r ⌝ }
 {
     if states[index] == 0 {
         return tail;

@@ -33,7 +33,8 @@ pub fn visit(
     second: usize,
 ) -> usize
     requires { ⌜ MayVisit (now states) (now queue) (now parents) (now ranks) tail state next first second ⌝ }
-    ensures { λ r. ⌜ Visited (now (states .entry)) (now (queue .entry)) (now (parents .entry)) (now (ranks .entry)) tail state next point first second (now (states .exit)) (now (queue .exit)) (now (parents .exit)) (now (ranks .exit)) r ⌝ }
+    ensures { λ r. ⌜ Visited (now (states .entry)) (now (queue .entry)) (now (parents .entry)) (now (ranks .entry)) tail state next point first second
+        (now (states .exit)) (now (queue .exit)) (now (parents .exit)) (now (ranks .exit)) r ⌝ }
 {
     if !open(states, next, first, second) {
         return tail;
