@@ -2,12 +2,11 @@
 use mathlib.Core.Path.{_≡_, refl, sym, ap, _∙_}
 use mathlib.Core.Bool.{false}
 use mathlib.Core.List.{List, [], _∷_, _++_, append-assoc}
-use Prim.Native.Nat.{ℕ, suc, _+_}
+use Prim.Native.Nat.{ℕ}
 use native.Mathlib.Omega.{arith}
 use lib.Dec.{leb→le}
 use lib.IntN.{ℤ, pos, negsuc}
-use lib.ListN.{drop, set}
-use lib.Seq.{sets}
+use lib.ListN.{drop}
 use mir.Syntax.{w32}
 use mir.Val.{SFits}
 use Rattle.decimal.specs.Numbers.{isDigit, decimalOf, number, nothing, FollowedAt, ReadsFollowed, accepts-followed}
@@ -80,14 +79,6 @@ module _ {text : List ℕ} {at : ℕ} where
             whole : drop at text ≡ fourLine read ++ (10 ∷ drop past text)
             whole =
                 there one .stands ∙ ap (λ (t : List ℕ). decimalOf a ++ (32 ∷ t)) (there two .stands ∙ ap (λ (t : List ℕ). decimalOf b ++ (32 ∷ t)) (there three .stands ∙ ap (λ (t : List ℕ). decimalOf d ++ (32 ∷ t)) (there last .stands))) ∙ sym (four-text read (10 ∷ drop past text))
-
--- ---- four numbers stored
-pub four-stored : (l : List ℤ) (i : ℕ) (a b d e : ℤ) → set (set (set (set l i a) (i + 1) b) (i + 2) d) (i + 3) e ≡ sets l i (a ∷ b ∷ d ∷ e ∷ [])
-four-stored l i a b d e =
-    let one : i + 1 ≡ suc i = omega arith in
-    let two : i + 2 ≡ suc (suc i) = omega arith in
-    let three : i + 3 ≡ suc (suc (suc i)) = omega arith in
-    rw (one, two, three)
 
 -- ---- one line for each rectangle
 pub four-one : (f g : Four) → fourLine f ≡ fourLine g → f ≡ g

@@ -3,5 +3,4 @@ pub mod Spelled
 pub mod Corners
 pub mod Counting
 pub mod Parts
-pub mod Stored
-pub mod Sections
+pub mod Counted

@@ -2,12 +2,11 @@
 use mathlib.Core.Path.{_≡_}
 use mathlib.Core.List.{List, [], _∷_, _++_, map}
 use Prim.Native.Nat.{ℕ, _≤_}
-use lib.IntN.{ℤ, pos}
+use lib.IntN.{pos}
 use lib.ListN.{length, drop}
-use lib.Seq.{sets}
 use Rattle.decimal.specs.Numbers.{decimalOf}
 use Rattle.textlines.specs.Lines.{textOf}
-use Rattle.roomlines.specs.Fours.{Four, fourLine, AllFit, numbersOf}
+use Rattle.roomlines.specs.Fours.{Four, fourLine, AllFit}
 
 -- "first line that breaks it": after so many lines, with which lines in the form start, and are not all of it, no line stands that goes on with them. A form is what is said of a list of lines
 pub record BreaksIn (Form : List (List ℕ) → Type 0) (text : List ℕ) (passed : ℕ) : Type 0 where
@@ -50,38 +49,3 @@ pub record FourLines (n : ℕ) (lines : List (List ℕ)) : Type 0 where
   pub fit : AllFit fours
   pub number : length fours ≡ n
   pub is : lines ≡ map fourLine fours
-
--- lines that were read, up to a place, or how many there are before the one that breaks the form
-pub data LinesFound : Type 0 where
-  up-to : (past : ℕ) → LinesFound
-  broken : (passed : ℕ) → LinesFound
-
--- rectangles that were read and stored from a place of the buffer on
-pub record FoursTaken (text : List ℕ) (at n place : ℕ) (before after : List ℤ) (past : ℕ) : Type 0 where
-  pub fours : List Four
-  pub fit : AllFit fours
-  pub number : length fours ≡ n
-  pub lines : LinesAt text at (map fourLine fours) past
-  pub stored : after ≡ sets before place (numbersOf fours)
-
-pub data TakesFours (text : List ℕ) (at n place : ℕ) (before after : List ℤ) : LinesFound → Type 0 where
-  takes-fours : {past : ℕ} → FoursTaken text at n place before after past → TakesFours text at n place before after (up-to past)
-  breaks-fours : {passed : ℕ} → BreaksIn (FourLines n) (drop at text) passed → TakesFours text at n place before after (broken passed)
-
--- ---- a section of rectangles
-pub data SectionFound : Type 0 where
-  section : ℕ → (past : ℕ) → SectionFound
-  section-broken : (passed : ℕ) → SectionFound
-
-pub record SectionTaken (lowest highest : ℕ) (text : List ℕ) (at place : ℕ) (before after : List ℤ) (n past : ℕ) : Type 0 where
-  pub fours : List Four
-  pub fit : AllFit fours
-  pub number : length fours ≡ n
-  pub low : lowest ≤ n
-  pub high : n ≤ highest
-  pub lines : LinesAt text at (decimalOf (pos n) ∷ map fourLine fours) past
-  pub stored : after ≡ sets before place (numbersOf fours)
-
-pub data TakesSection (lowest highest : ℕ) (text : List ℕ) (at place : ℕ) (before after : List ℤ) : SectionFound → Type 0 where
-  takes-section : {n past : ℕ} → SectionTaken lowest highest text at place before after n past → TakesSection lowest highest text at place before after (section n past)
-  breaks-section : {passed : ℕ} → BreaksIn (Counted FourLines lowest highest) (drop at text) passed → TakesSection lowest highest text at place before after (section-broken passed)

@@ -4,7 +4,6 @@ use mathlib.Core.List.{List, [], _∷_, _++_}
 use Prim.Native.Nat.{ℕ, _≤_}
 use lib.IntN.{ℤ, pos, negsuc}
 use lib.ListN.{length, drop}
-use lib.Seq.{sets}
 use Rattle.decimal.specs.Numbers.{decimalOf, Within}
 
 -- "a rectangle is four i32: left, top, right, bottom"
@@ -51,19 +50,3 @@ pub record FourAt (text : List ℕ) (at : ℕ) (f : Four) (past : ℕ) : Type 0 
 pub data ReadsFour (text : List ℕ) (at : ℕ) : FourFound → Type 0 where
   accepts-four : {f : Four} {past : ℕ} → FourAt text at f past → ReadsFour text at (four f past)
   refuses-four : ((f : Four) (after : List ℕ) → FourFits f → drop at text ≡ fourLine f ++ (10 ∷ after) → ⊥) → ReadsFour text at no-four
-
--- ---- one line, stored
-pub data LineTaken : Type 0 where
-  line-up-to : (past : ℕ) → LineTaken
-  no-line : LineTaken
-
--- four numbers that were read and stored from a place of the buffer on, or that no such line stands there
-pub data TakesFour (text : List ℕ) (at place : ℕ) (before after : List ℤ) : LineTaken → Type 0 where
-  takes-four : {f : Four} {past : ℕ} → FourAt text at f past → after ≡ sets before place (numbersOf (f ∷ [])) → TakesFour text at place before after (line-up-to past)
-  breaks-four : ((f : Four) (after : List ℕ) → FourFits f → drop at text ≡ fourLine f ++ (10 ∷ after) → ⊥) → TakesFour text at place before after no-line
-
--- a buffer as long as the text, filled no further than the text is read: a line of four numbers has more bytes than numbers
-pub record BufferFits (text : List ℕ) (at : ℕ) (numbers : List ℤ) (place : ℕ) : Type 0 where
-  pub inside : at ≤ length text
-  pub behind : place ≤ at
-  pub long : length text ≤ length numbers

@@ -1,3 +1,3 @@
-// Lines of a room text: counts, and lines of four numbers. What is read is stored in a lent buffer.
+// Lines of a room text: a count on a line of its own, and a line of four numbers.
 pub mod counts;
-pub mod rectangles;
+pub mod fours;

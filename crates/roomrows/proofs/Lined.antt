@@ -16,8 +16,7 @@ use Rattle.roomrows.specs.Rows.{isCell, cellOf, cellsOf, RowOf, AllRows,
 use Rattle.roomlines.proofs.Spelled.{part-length}
 use Rattle.roomlines.proofs.Counting.{one-line}
 use Rattle.roomlines.proofs.Parts.{sets-append}
-use Rattle.roomlines.proofs.Stored.{lines-more}
-use Rattle.roomlines.proofs.Sections.{lines-append, breaks-short, count-broken, counted-broken, count-line, count-most, count-least}
+use Rattle.roomlines.proofs.Counted.{lines-append, lines-more, breaks-short, count-broken, counted-broken, count-line, count-most, count-least}
 use Rattle.roomrows.proofs.Bits.{dot-cell, line-feed-no-cell, byte-of}
 
 -- ---- rows in a list

@@ -1,5 +1,5 @@
 // The rows of a map: `.` is walkable and `#` is not, all rows have one length.
-use roomlines::counts;
+use reader;
 use roomlines::counts::FoundCount;
 use textlines;
 use textlines::FoundLine;
@@ -115,7 +115,7 @@ pub fn grid(text: &[u8], at: usize, cells: &mut [u8]) -> FoundGrid
     requires { ⌜ CellsFit (now text) at (now cells) ⌝ }
     ensures { λ r. ⌜ TakesGrid (now (text .entry)) at (now (cells .entry)) (now (cells .exit)) (gridFound r) ⌝ }
 {
-    let number = counts::count(text, at, 1, 2147483647);
+    let number = reader::count_at(text, at, 1, 2147483647);
     let FoundCount::Count(height, first) = number else {
         return FoundGrid::Broken(0);
     };

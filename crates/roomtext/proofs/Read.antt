@@ -6,10 +6,11 @@ use native.Mathlib.Omega.{arith}
 use lib.IntN.{ℤ}
 use lib.ListN.{length, drop, length-drop, length-map, drop-of-length-le}
 use Rattle.textlines.specs.Lines.{textOf}
-use Rattle.roomlines.specs.Fours.{Four, fourLine, BufferFits}
+use Rattle.roomlines.specs.Fours.{Four, fourLine}
 use Rattle.roomlines.specs.Forms.{LinesAt}
 use Rattle.roomlines.proofs.Parts.{length-parts}
-use Rattle.roomlines.proofs.Sections.{lines-append, breaks-short}
+use Rattle.roomlines.proofs.Counted.{lines-append, breaks-short}
+use Rattle.sections.specs.Storing.{BufferFits}
 use Rattle.roomrows.specs.Rows.{CellsFit, grid, grid-broken, GridTaken, TakesGrid, takes-grid, breaks-grid}
 use Rattle.roomtext.specs.Room.{Room, counted, roomLines, roomText, Formed}
 use Rattle.roomtext.specs.Readings.{RowsForm, tail, tail-broken, TailTaken, TakesTail, takes-tail, breaks-tail, room, broken-at, ReadsRoom, reads-room, breaks-at, RoomFits}

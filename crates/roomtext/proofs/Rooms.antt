@@ -10,8 +10,8 @@ use Rattle.textlines.specs.Lines.{textOf}
 use Rattle.roomlines.specs.Fours.{Four, fourLine, FourFits, AllFit, nothing, more}
 use Rattle.roomlines.specs.Forms.{BreaksIn, Counted, FourLines}
 use Rattle.roomlines.proofs.Counting.{line-on}
-use Rattle.roomlines.proofs.Stored.{fours-sized}
-use Rattle.roomlines.proofs.Sections.{counted-one}
+use Rattle.roomlines.proofs.Counted.{counted-one}
+use Rattle.sections.proofs.Stored.{fours-sized}
 use Rattle.roomtext.specs.Room.{Room, counted, roomLines, roomText, Formed, Breaks}
 use Rattle.roomtext.specs.Readings.{RowsForm, RectanglesForm, TargetsForm, EndForm, RoomForm}
 use Rattle.roomtext.proofs.Joined.{Ending, carry, both-ending}

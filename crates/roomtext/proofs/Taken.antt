@@ -8,12 +8,13 @@ use lib.ListN.{length, drop, replicate, length-append, length-drop, length-map}
 use lib.Seq.{sets, length-sets}
 use Rattle.decimal.specs.Numbers.{decimalOf}
 use Rattle.textlines.specs.Lines.{textOf}
-use Rattle.roomlines.specs.Fours.{Four, fourLine, numbersOf, BufferFits}
-use Rattle.roomlines.specs.Forms.{BreaksIn, LinesAt, Counted, FourLines, SectionFound, section, section-broken, SectionTaken, TakesSection, takes-section, breaks-section}
+use Rattle.roomlines.specs.Fours.{Four, fourLine, numbersOf}
+use Rattle.roomlines.specs.Forms.{BreaksIn, LinesAt, Counted, FourLines}
 use Rattle.roomlines.proofs.Counting.{line-on}
 use Rattle.roomlines.proofs.Parts.{sets-append}
-use Rattle.roomlines.proofs.Stored.{zeros, zeros-fit, numbers-append, numbers-length, four-long}
-use Rattle.roomlines.proofs.Sections.{lines-append, lines-past, breaks-short}
+use Rattle.roomlines.proofs.Counted.{lines-append, lines-past, breaks-short}
+use Rattle.sections.specs.Storing.{BufferFits, SectionFound, section, section-broken, SectionTaken, TakesSection, takes-section, breaks-section}
+use Rattle.sections.proofs.Stored.{zeros, zeros-fit, numbers-append, numbers-length, four-long}
 use Rattle.roomtext.specs.Room.{counted}
 use Rattle.roomtext.specs.Readings.{RectanglesForm, TargetsForm, EndForm, TailForm, end, end-broken, EndTaken, TakesEnd, takes-end, breaks-end, tail, tail-broken, TakesTail, takes-tail, breaks-tail}
 use Rattle.roomtext.proofs.Joined.{first-breaks, second-breaks}

@@ -1,11 +1,11 @@
 // A room text, read section by section in one pass. What is read is stored in lent buffers, and a text that breaks the form is answered with its first line that does.
 pub mod verdict;
 
-use roomlines::rectangles;
-use roomlines::rectangles::FoundSection;
 use roomrows::grid;
 use roomrows::grid::FoundGrid;
-ghost use Rattle.roomlines.specs.Fours.{BufferFits};
+use sections;
+use sections::FoundSection;
+ghost use Rattle.sections.specs.Storing.{BufferFits};
 ghost use Rattle.roomtext.specs.Readings.{TakesEnd, TakesTail, ReadsRoom, RoomFits};
 ghost use Rattle.roomtext.specs.Answers.{endFound, tailFound, roomFound};
 
@@ -39,13 +39,13 @@ fn end(text: &[u8], at: usize, numbers: &mut [i32], place: usize) -> FoundEnd
     requires { ⌜ BufferFits (now text) at (now numbers) place ⌝ }
     ensures { λ r. ⌜ TakesEnd (now (text .entry)) at place (now (numbers .entry)) (now (numbers .exit)) (endFound r) ⌝ }
 {
-    let taken = rectangles::section(text, at, 0, 2147483647, numbers, place);
+    let taken = sections::section(text, at, 0, 2147483647, numbers, place);
     match taken {
         FoundSection::Broken(passed) => {
             return FoundEnd::Broken(passed);
         }
         FoundSection::Section(resources, from) => {
-            let last = rectangles::section(text, from, 1, 1, numbers, place + 4 * resources);
+            let last = sections::section(text, from, 1, 1, numbers, place + 4 * resources);
             match last {
                 FoundSection::Broken(passed) => {
                     return FoundEnd::Broken(resources + 1 + passed);
@@ -63,7 +63,7 @@ fn tail(text: &[u8], at: usize, numbers: &mut [i32]) -> FoundTail
     requires { ⌜ BufferFits (now text) at (now numbers) 0 ⌝ }
     ensures { λ r. ⌜ TakesTail (now (text .entry)) at (now (numbers .entry)) (now (numbers .exit)) (tailFound r) ⌝ }
 {
-    let taken = rectangles::section(text, at, 0, 2147483647, numbers, 0);
+    let taken = sections::section(text, at, 0, 2147483647, numbers, 0);
     match taken {
         FoundSection::Broken(passed) => {
             return FoundTail::Broken(passed);

@@ -2,8 +2,8 @@
 use mathlib.Core.Path.{refl}
 use native.Mathlib.Omega.{arith}
 use borrow.Author.Needs.{needs}
-use Rattle.roomlines.specs.Forms.{SectionTaken}
-use Rattle.roomlines.specs.Answers.{sectionFound}
+use Rattle.sections.specs.Storing.{SectionTaken}
+use Rattle.sections.specs.Answers.{sectionFound}
 use Rattle.roomtext.specs.Answers.{endFound}
 use Rattle.roomtext.proofs.Taken.{in-limits, section-taken, section-short, fits-after, end-none, end-breaks, end-taken}
 use Rattle.roomtext.proofs.end.Statement.{statement}

@@ -1,8 +1,8 @@
 -- `roomtext::tail`: the blockers, and then the resources and the targets.
 use native.Mathlib.Omega.{arith}
 use borrow.Author.Needs.{needs}
-use Rattle.roomlines.specs.Forms.{SectionTaken}
-use Rattle.roomlines.specs.Answers.{sectionFound}
+use Rattle.sections.specs.Storing.{SectionTaken}
+use Rattle.sections.specs.Answers.{sectionFound}
 use Rattle.roomtext.specs.Answers.{endFound, tailFound}
 use Rattle.roomtext.proofs.Taken.{in-limits, section-taken, fits-after, end-short, tail-none, tail-breaks, tail-taken}
 use Rattle.roomtext.proofs.tail.Statement.{statement}

@@ -4,13 +4,13 @@ use borrow.Author.Needs.{needs}
 use Rattle.roomlines.specs.Forms.{ReadsCount, count}
 use Rattle.roomlines.specs.Answers.{countFound}
 use Rattle.roomrows.specs.Answers.{rowsFound, gridFound}
-use Rattle.roomlines.proofs.Sections.{count-least}
+use Rattle.roomlines.proofs.Counted.{count-least}
 use Rattle.roomrows.proofs.Lined.{at-least-one, grid-none, grid-fits, grid-taken, grid-breaks, grid-short}
 use Rattle.roomrows.proofs.grid.grid.Statement.{statement}
 use Rattle.roomrows.proofs.grid.grid.Tie as tie
 
-count-requires : tie.Need-count-requires
-count-requires c κs = search needs
+count-at-requires : tie.Need-count-at-requires
+count-at-requires c κs = search needs
 
 enum-known-number : tie.Need-enum-known-number
 enum-known-number c = search needs
@@ -20,12 +20,12 @@ enum-told c = search needs
 
 returns : tie.Need-returns
 unfolding countFound gridFound
-returns c = grid-none (at-least-one (rw (c .enum-told .given .1) at (c .before .before .count .ensures)) (omega arith) (omega arith))
+returns c = grid-none (at-least-one (rw (c .enum-told .given .1) at (c .before .before .count-at .ensures)) (omega arith) (omega arith))
 
 -- the count that was read
 counted : (c : tie.After-known-told) → ReadsCount 1 2147483647 (c .before .before .before .before .before .before .args .text .now) (c .before .before .before .before .before .before .args .at) (count (c .before .number .given .0 .0) (c .before .number .given .0 .1 .0))
 unfolding countFound
-counted c = at-least-one (rw (c .before .number .given .1) at (c .before .before .before .count .ensures)) (omega arith) (omega arith)
+counted c = at-least-one (rw (c .before .number .given .1) at (c .before .before .before .count-at .ensures)) (omega arith) (omega arith)
 
 rows-requires : tie.Need-rows-requires
 rows-requires c κs = let r = counted (c .before) in (grid-fits r (c .before .before .before .before .before .before .before .pre), omega (arith, count-least r))
@@ -58,7 +58,7 @@ pub grid-spec : {M : Type 1} → statement M
 grid-spec =
     tie.close
     (tie.spec
-    count-requires
+    count-at-requires
     enum-known-number
     enum-told
     returns

@@ -1,16 +1,18 @@
--- `roomlines::rectangles::take`: what was read is stored.
+-- `sections::take`: what was read is stored.
 use borrow.Author.Needs.{needs}
 use mir.Syntax.{w32}
 use mir.ValLaws.{toZ-ofZ}
-use Rattle.roomlines.specs.Fours.{FourAt, takes-four, numbersOf}
-use Rattle.roomlines.specs.Answers.{fourFound, lineTaken}
+use Rattle.roomlines.specs.Fours.{FourAt, numbersOf}
+use Rattle.sections.specs.Storing.{takes-four}
+use Rattle.roomlines.specs.Answers.{fourFound}
+use Rattle.sections.specs.Answers.{lineTaken}
 use Rattle.roomlines.proofs.Corners.{signed-fits}
-use Rattle.roomlines.proofs.Stored.{four-at, four-room, take-none}
-use Rattle.roomlines.proofs.rectangles.take.Statement.{statement}
-use Rattle.roomlines.proofs.rectangles.take.Tie as tie
+use Rattle.sections.proofs.Stored.{four-at, four-room, take-none}
+use Rattle.sections.proofs.take.Statement.{statement}
+use Rattle.sections.proofs.take.Tie as tie
 
-four-requires : tie.Need-four-requires
-four-requires c κs = search needs
+four-at-requires : tie.Need-four-at-requires
+four-at-requires c κs = search needs
 
 enum-known-found : tie.Need-enum-known-found
 enum-known-found c = search needs
@@ -20,12 +22,12 @@ enum-told c = search needs
 
 returns : tie.Need-returns
 unfolding fourFound lineTaken
-returns c = take-none (rw (c .enum-told .given .1) at (c .before .before .four .ensures))
+returns c = take-none (rw (c .enum-told .given .1) at (c .before .before .four-at .ensures))
 
 -- the four numbers that were read
 read : (c : tie.After-known-told) → FourAt (c .before .before .before .before .before .args .text .now) (c .before .before .before .before .before .args .at) (record { left = c .before .found .given .0 .0; top = c .before .found .given .0 .1 .0; right = c .before .found .given .0 .1 .1 .0; bottom = c .before .found .given .0 .1 .1 .1 .0 }) (c .before .found .given .0 .1 .1 .1 .1 .0)
 unfolding fourFound
-read c = four-at (rw (c .before .found .given .1) at (c .before .before .before .four .ensures))
+read c = four-at (rw (c .before .found .given .1) at (c .before .before .before .four-at .ensures))
 
 store-requires : tie.Need-store-requires
 store-requires c κs = four-room (read (c .before)) (c .before .before .before .before .before .before .pre)
@@ -44,7 +46,7 @@ pub take-spec : {M : Type 1} → statement M
 take-spec =
     tie.close
     (tie.spec
-    four-requires
+    four-at-requires
     enum-known-found
     enum-told
     returns

@@ -1,12 +1,12 @@
--- `roomlines::rectangles::store`: four stores, one after another.
+-- `sections::store`: four stores, one after another.
 use native.Mathlib.Omega.{arith}
 use borrow.Author.Needs.{needs}
 use lib.ListN.{length-set}
 use mir.Syntax.{w32}
 use mir.ValLaws.{toZ-ofZ}
-use Rattle.roomlines.proofs.Corners.{four-stored}
-use Rattle.roomlines.proofs.rectangles.store.Statement.{statement}
-use Rattle.roomlines.proofs.rectangles.store.Tie as tie
+use Rattle.sections.proofs.Stored.{four-stored}
+use Rattle.sections.proofs.store.Statement.{statement}
+use Rattle.sections.proofs.store.Tie as tie
 
 mul-left : tie.Need-mul-left
 mul-left c = search needs

@@ -1,13 +1,13 @@
--- `roomlines::rectangles::fours`: the lines so far are read and stored.
+-- `sections::fours`: the lines so far are read and stored.
 use mathlib.Core.Path.{_∙_}
 use Prim.Native.Nat.{_-_}
 use native.Mathlib.Omega.{arith}
 use borrow.Author.Needs.{needs}
-use Rattle.roomlines.specs.Fours.{TakesFour, line-up-to}
-use Rattle.roomlines.specs.Answers.{lineTaken, linesFound}
-use Rattle.roomlines.proofs.Stored.{FoursRead, read-none, read-turn, turn-inside, read-length, read-fits, fours-broken, fours-taken}
-use Rattle.roomlines.proofs.rectangles.fours.Statement.{statement}
-use Rattle.roomlines.proofs.rectangles.fours.Tie as tie
+use Rattle.sections.specs.Storing.{TakesFour, line-up-to}
+use Rattle.sections.specs.Answers.{lineTaken, linesFound}
+use Rattle.sections.proofs.Stored.{FoursRead, read-none, read-turn, turn-inside, read-length, read-fits, fours-broken, fours-taken}
+use Rattle.sections.proofs.fours.Statement.{statement}
+use Rattle.sections.proofs.fours.Tie as tie
 
 abbrev Inv-loop : tie.InvT-loop
 Inv-loop text at count numbers₀ place from₀ to₀ passed₀ numbers from to passed = FoursRead text at count place numbers₀ numbers from to passed

@@ -1,14 +1,15 @@
--- `roomlines::rectangles::section`: the count, and then the lines.
+-- `sections::section`: the count, and then the lines.
 use native.Mathlib.Omega.{arith}
 use borrow.Author.Needs.{needs}
 use Rattle.roomlines.specs.Forms.{ReadsCount, count}
-use Rattle.roomlines.specs.Answers.{countFound, linesFound, sectionFound}
-use Rattle.roomlines.proofs.Sections.{section-none, section-fits, section-taken, section-breaks, broken-short}
-use Rattle.roomlines.proofs.rectangles.section.Statement.{statement}
-use Rattle.roomlines.proofs.rectangles.section.Tie as tie
+use Rattle.roomlines.specs.Answers.{countFound}
+use Rattle.sections.specs.Answers.{linesFound, sectionFound}
+use Rattle.sections.proofs.Sections.{section-none, section-fits, section-taken, section-breaks, broken-short}
+use Rattle.sections.proofs.section.Statement.{statement}
+use Rattle.sections.proofs.section.Tie as tie
 
-count-requires : tie.Need-count-requires
-count-requires c κs = search needs
+count-at-requires : tie.Need-count-at-requires
+count-at-requires c κs = search needs
 
 enum-known-number : tie.Need-enum-known-number
 enum-known-number c = search needs
@@ -18,12 +19,12 @@ enum-told c = search needs
 
 returns : tie.Need-returns
 unfolding countFound sectionFound
-returns c = section-none (c .before .before .before .before .pre .1) (rw (c .enum-told .given .1) at (c .before .before .count .ensures))
+returns c = section-none (c .before .before .before .before .pre .1) (rw (c .enum-told .given .1) at (c .before .before .count-at .ensures))
 
 -- the count that was read
 counted : (c : tie.After-known-told) → ReadsCount (c .before .before .before .before .before .args .lowest) (c .before .before .before .before .before .args .highest) (c .before .before .before .before .before .args .text .now) (c .before .before .before .before .before .args .at) (count (c .before .number .given .0 .0) (c .before .number .given .0 .1 .0))
 unfolding countFound
-counted c = rw (c .before .number .given .1) at (c .before .before .before .count .ensures)
+counted c = rw (c .before .number .given .1) at (c .before .before .before .count-at .ensures)
 
 fours-requires : tie.Need-fours-requires
 fours-requires c κs = section-fits (counted (c .before)) (c .before .before .before .before .before .before .pre .0)
@@ -56,7 +57,7 @@ pub section-spec : {M : Type 1} → statement M
 section-spec =
     tie.close
     (tie.spec
-    count-requires
+    count-at-requires
     enum-known-number
     enum-told
     returns

@@ -3,17 +3,15 @@ use mathlib.Core.Path.{_≡_, refl, sym, ap, _∙_}
 use mathlib.Core.List.{List, [], _∷_, _++_, append-assoc}
 use Prim.Native.Nat.{ℕ, _+_, _≤_}
 use native.Mathlib.Omega.{arith}
-use lib.IntN.{ℤ, pos}
+use lib.IntN.{pos}
 use lib.ListN.{length, drop, length-append, length-drop}
 use Rattle.decimal.specs.Numbers.{decimalOf}
 use Rattle.decimal.proofs.Canonical.{canonical-one}
 use Rattle.textlines.specs.Lines.{textOf}
-use Rattle.roomlines.specs.Fours.{BufferFits}
-use Rattle.roomlines.specs.Forms.{BreaksIn, LinesAt, Counted, count, no-count, ReadsCount, accepts-count, refuses-count, up-to, broken, TakesFours, takes-fours, breaks-fours, section, section-broken, TakesSection, takes-section, breaks-section}
+use Rattle.roomlines.specs.Forms.{BreaksIn, LinesAt, Counted, count, ReadsCount, accepts-count}
 use Rattle.roomlines.proofs.Spelled.{part-length}
 use Rattle.roomlines.proofs.Counting.{line-on, one-line}
 use Rattle.roomlines.proofs.Parts.{text-append, text-long}
-use Rattle.roomlines.proofs.Stored.{some-fours}
 
 -- ---- lines from one place to another
 pub lines-append : {text : List ℕ} {at from past : ℕ} {ls ms : List (List ℕ)} → LinesAt text at ls from → LinesAt text from ms past → LinesAt text at (ls ++ ms) past
@@ -23,6 +21,15 @@ lines-append {text} {at} {from} {past} {ls} {ms} a b = record {
       ap (λ (t : List ℕ). t ++ drop past text) (sym (text-append ls ms));
   inside = b .inside;
 }
+
+-- lines and one more
+pub lines-more : {text : List ℕ} {at from past : ℕ} {lines : List (List ℕ)} (l : List ℕ) → LinesAt text at lines from → drop from text ≡ l ++ (10 ∷ drop past text) → past ≤ length text → LinesAt text at (lines ++ (l ∷ [])) past
+lines-more {text} {at} {from} {past} {lines} l a e i = record { stands = whole; inside = i }
+  where
+    whole : drop at text ≡ textOf (lines ++ (l ∷ [])) ++ drop past text
+    whole =
+        a .stands ∙ ap (λ (t : List ℕ). textOf lines ++ t) (e ∙ sym (one-line l (drop past text))) ∙
+        sym (append-assoc (textOf lines) (textOf (l ∷ [])) (drop past text)) ∙ ap (λ (t : List ℕ). t ++ drop past text) (sym (text-append lines (l ∷ [])))
 
 pub lines-past : {text : List ℕ} {at past : ℕ} {ls : List (List ℕ)} → LinesAt text at ls past → at ≤ length text → past ≡ at + length (textOf ls)
 lines-past {text} {at} {past} {ls} a h = let i = a .inside in omega (arith, part-length text at (textOf ls) (drop past text) (a .stands), length-drop past text)
@@ -35,7 +42,7 @@ breaks-short b = omega (arith, b .number, text-long (b .first), ap length (b .sp
 pos-one : (m n : ℕ) → decimalOf (pos m) ≡ decimalOf (pos n) → m ≡ n
 pos-one m n e = let p : pos m ≡ pos n = canonical-one (pos m) (pos n) e in cc
 
-pub append-one {ℓ} : {A : Type ℓ} (a b x y : List A) → length a ≡ length b → a ++ x ≡ b ++ y → (a ≡ b) × (x ≡ y)
+append-one {ℓ} : {A : Type ℓ} (a b x y : List A) → length a ≡ length b → a ++ x ≡ b ++ y → (a ≡ b) × (x ≡ y)
 append-one [] [] x y h e = (refl, e)
 append-one [] (d ∷ b) x y h e = absurd (omega arith)
 append-one (d ∷ a) [] x y h e = absurd (omega arith)
@@ -95,38 +102,13 @@ module _ {Form : ℕ → List (List ℕ) → Type 0} {lowest highest : ℕ} wher
       let h : decimalOf (pos (c .number)) ≡ decimalOf (pos (d .number)) = cc in
       append-one a b x y (ap length (c .is) ∙ omega (arith, sized (c .number) (c .content) (c .form), sized (d .number) (d .content) (d .form), pos-one (c .number) (d .number) h) ∙ sym (ap length (d .is))) e
 
--- ---- a section of rectangles
-module _ {lowest highest : ℕ} {text : List ℕ} {at : ℕ} where
-  pub section-none : {place : ℕ} {before after : List ℤ} → lowest ≤ highest → ReadsCount lowest highest text at no-count → TakesSection lowest highest text at place before after (section-broken 0)
-  section-none h (refuses-count none) = breaks-section (count-broken _ h (some-fours lowest) none)
+-- ---- a count that was read
+module _ {lowest highest : ℕ} {text : List ℕ} {at n first : ℕ} where
+  pub count-least : ReadsCount lowest highest text at (count n first) → lowest ≤ n
+  count-least (accepts-count low high l) = low
 
-  module _ {n first : ℕ} (r : ReadsCount lowest highest text at (count n first)) where
-    pub count-most : n ≤ highest
-    count-most = most r
-      where
-        most : ReadsCount lowest highest text at (count n first) → n ≤ highest
-        most (accepts-count low high l) = high
+  pub count-most : ReadsCount lowest highest text at (count n first) → n ≤ highest
+  count-most (accepts-count low high l) = high
 
-    pub count-line : LinesAt text at (decimalOf (pos n) ∷ []) first
-    count-line = stands r
-      where
-        stands : ReadsCount lowest highest text at (count n first) → LinesAt text at (decimalOf (pos n) ∷ []) first
-        stands (accepts-count low high l) = l
-
-    pub count-least : lowest ≤ n
-    count-least = least r
-      where
-        least : ReadsCount lowest highest text at (count n first) → lowest ≤ n
-        least (accepts-count low high l) = low
-
-    pub section-fits : {numbers : List ℤ} {place : ℕ} → BufferFits text at numbers place → BufferFits text first numbers place
-    section-fits b = let i = b .inside in record { inside = count-line .inside; behind = omega (arith, b .behind, lines-past count-line i); long = b .long }
-
-    pub section-taken : {place past : ℕ} {before after : List ℤ} → TakesFours text first n place before after (up-to past) → TakesSection lowest highest text at place before after (section n past)
-    section-taken (takes-fours t) = takes-section (record { fours = t .fours; fit = t .fit; number = t .number; low = count-least; high = count-most; lines = lines-append count-line (t .lines); stored = t .stored })
-
-    pub section-breaks : {place passed line : ℕ} {before after : List ℤ} → TakesFours text first n place before after (broken passed) → line ≡ passed + 1 → TakesSection lowest highest text at place before after (section-broken line)
-    section-breaks (breaks-fours b) e = rw e (breaks-section (counted-broken n count-least count-most (count-line .stands ∙ one-line (decimalOf (pos n)) (drop first text)) b))
-
-    pub broken-short : {place passed : ℕ} {before after : List ℤ} → TakesFours text first n place before after (broken passed) → passed ≤ length text
-    broken-short (breaks-fours b) = omega (arith, breaks-short b, length-drop first text)
+  pub count-line : ReadsCount lowest highest text at (count n first) → LinesAt text at (decimalOf (pos n) ∷ []) first
+  count-line (accepts-count low high l) = l

@@ -1,18 +1,27 @@
 -- Lines of four numbers, read one after another and stored.
 use mathlib.Core.Path.{_≡_, refl, sym, ap, _∙_}
-use mathlib.Core.List.{List, [], _∷_, _++_, map, append-assoc}
+use mathlib.Core.List.{List, [], _∷_, _++_, map}
 use Prim.Native.Nat.{ℕ, zero, suc, _+_, _*_, _-_, _≤_, _<_}
 use native.Mathlib.Omega.{arith}
 use lib.Dec.{le→leb}
 use lib.IntN.{ℤ, pos}
-use lib.ListN.{length, drop, replicate, length-replicate, length-append, length-drop, length-map}
+use lib.ListN.{length, drop, replicate, length-replicate, length-append, length-drop, length-map, set}
 use lib.Seq.{sets, length-sets}
 use Rattle.textlines.specs.Lines.{textOf}
-use Rattle.roomlines.specs.Fours.{Four, fourLine, Signed32, FourFits, AllFit, nothing, more, numbersOf, FourAt, four, no-four, ReadsFour, accepts-four, refuses-four, line-up-to, no-line, TakesFour, takes-four, breaks-four, BufferFits}
-use Rattle.roomlines.specs.Forms.{BreaksIn, LinesAt, FourLines, up-to, broken, FoursTaken, TakesFours, takes-fours, breaks-fours}
+use Rattle.roomlines.specs.Fours.{Four, fourLine, Signed32, FourFits, AllFit, nothing, more, numbersOf, FourAt, four, no-four, ReadsFour, accepts-four, refuses-four}
+use Rattle.roomlines.specs.Forms.{BreaksIn, LinesAt, FourLines}
 use Rattle.roomlines.proofs.Spelled.{part-length}
-use Rattle.roomlines.proofs.Counting.{one-line}
-use Rattle.roomlines.proofs.Parts.{map-append, sets-append, text-append}
+use Rattle.roomlines.proofs.Parts.{map-append, sets-append}
+use Rattle.roomlines.proofs.Counted.{lines-more}
+use Rattle.sections.specs.Storing.{BufferFits, line-up-to, no-line, TakesFour, takes-four, breaks-four, up-to, broken, FoursTaken, TakesFours, takes-fours, breaks-fours}
+
+-- ---- four numbers stored
+pub four-stored : (l : List ℤ) (i : ℕ) (a b d e : ℤ) → set (set (set (set l i a) (i + 1) b) (i + 2) d) (i + 3) e ≡ sets l i (a ∷ b ∷ d ∷ e ∷ [])
+four-stored l i a b d e =
+    let one : i + 1 ≡ suc i = omega arith in
+    let two : i + 2 ≡ suc (suc i) = omega arith in
+    let three : i + 3 ≡ suc (suc (suc i)) = omega arith in
+    rw (one, two, three)
 
 -- ---- rectangles in a list
 pub fit-append : {fs gs : List Four} → AllFit fs → AllFit gs → AllFit (fs ++ gs)
@@ -91,15 +100,6 @@ pub record FoursRead (text : List ℕ) (at n place : ℕ) (before now : List ℤ
 pub read-none : {text : List ℕ} {at n place : ℕ} {before : List ℤ} → BufferFits text at before place → FoursRead text at n place before before at place 0
 unfolding textOf numbersOf
 read-none {text} {at} b = record { fours = []; fit = nothing; number = refl; lines = record { stands = refl; inside = b .inside }; stored = refl; next = omega arith; behind = b .behind; most = omega arith }
-
--- lines and one more
-pub lines-more : {text : List ℕ} {at from past : ℕ} {lines : List (List ℕ)} (l : List ℕ) → LinesAt text at lines from → drop from text ≡ l ++ (10 ∷ drop past text) → past ≤ length text → LinesAt text at (lines ++ (l ∷ [])) past
-lines-more {text} {at} {from} {past} {lines} l a e i = record { stands = whole; inside = i }
-  where
-    whole : drop at text ≡ textOf (lines ++ (l ∷ [])) ++ drop past text
-    whole =
-        a .stands ∙ ap (λ (t : List ℕ). textOf lines ++ t) (e ∙ sym (one-line l (drop past text))) ∙
-        sym (append-assoc (textOf lines) (textOf (l ∷ [])) (drop past text)) ∙ ap (λ (t : List ℕ). t ++ drop past text) (sym (text-append lines (l ∷ [])))
 
 module _ {text : List ℕ} {at n place : ℕ} {before now : List ℤ} {from to passed : ℕ} (r : FoursRead text at n place before now from to passed) where
   read-more : {f : Four} {past : ℕ} {after : List ℤ} → FourAt text from f past → after ≡ sets now to (numbersOf (f ∷ [])) → passed < n → FoursRead text at n place before after past (to + 4) (passed + 1)

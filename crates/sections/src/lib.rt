@@ -1,22 +1,14 @@
-// Lines of four numbers: one, as many as a count says, and a section after its count.
-use crate::counts;
-use crate::counts::FoundCount;
-use decimal::read;
-use decimal::read::FoundInteger;
+// Lines of four numbers in a room text, read and stored in a lent buffer: one, as many as a count says, and a section after its count.
+use reader;
+use roomlines::counts::FoundCount;
+use roomlines::fours::FoundFour;
 ghost use mathlib.Core.Path.{_≡_};
 ghost use mathlib.Core.List.{_∷_, []};
 ghost use Prim.Native.Nat.{_+_, _≤_};
 ghost use lib.ListN.{length};
 ghost use lib.Seq.{sets};
-ghost use Rattle.roomlines.specs.Fours.{ReadsFour, TakesFour, BufferFits};
-ghost use Rattle.roomlines.specs.Forms.{TakesFours, TakesSection};
-ghost use Rattle.roomlines.specs.Answers.{fourFound, lineTaken, linesFound, sectionFound};
-
-// Four numbers and the place after their line, or no such line.
-pub enum FoundFour {
-    Four(i32, i32, i32, i32, usize),
-    Nothing,
-}
+ghost use Rattle.sections.specs.Storing.{BufferFits, TakesFour, TakesFours, TakesSection};
+ghost use Rattle.sections.specs.Answers.{lineTaken, linesFound, sectionFound};
 
 // The place after a line that was stored, or no such line.
 pub enum Taken {
@@ -36,29 +28,6 @@ pub enum FoundSection {
     Broken(usize),
 }
 
-// Reads a line of four numbers with single spaces.
-pub fn four(text: &[u8], at: usize) -> FoundFour
-    ensures { λ r. ⌜ ReadsFour (now (text .entry)) at (fourFound r) ⌝ }
-{
-    let first = read::followed(text, at, b' ', -2147483648, 2147483647);
-    let FoundInteger::Number(left, to_top) = first else {
-        return FoundFour::Nothing;
-    };
-    let second = read::followed(text, to_top, b' ', -2147483648, 2147483647);
-    let FoundInteger::Number(top, to_right) = second else {
-        return FoundFour::Nothing;
-    };
-    let third = read::followed(text, to_right, b' ', -2147483648, 2147483647);
-    let FoundInteger::Number(right, to_bottom) = third else {
-        return FoundFour::Nothing;
-    };
-    let fourth = read::followed(text, to_bottom, b'\n', -2147483648, 2147483647);
-    let FoundInteger::Number(bottom, past) = fourth else {
-        return FoundFour::Nothing;
-    };
-    FoundFour::Four(left, top, right, bottom, past)
-}
-
 // Stores four numbers from a place on.
 fn store(numbers: &mut [i32], place: usize, left: i32, top: i32, right: i32, bottom: i32)
     requires { ⌜ place + 4 ≤ length (now numbers) ⌝ }
@@ -75,7 +44,7 @@ fn take(text: &[u8], at: usize, numbers: &mut [i32], place: usize) -> Taken
     requires { ⌜ BufferFits (now text) at (now numbers) place ⌝ }
     ensures { λ r. ⌜ TakesFour (now (text .entry)) at place (now (numbers .entry)) (now (numbers .exit)) (lineTaken r) ⌝ }
 {
-    let found = four(text, at);
+    let found = reader::four_at(text, at);
     let FoundFour::Four(left, top, right, bottom, past) = found else {
         return Taken::Broken;
     };
@@ -115,7 +84,7 @@ pub fn section(
     requires { ⌜ BufferFits (now text) at (now numbers) place × (lowest ≤ highest) × (highest ≤ 2147483647) ⌝ }
     ensures { λ r. ⌜ TakesSection lowest highest (now (text .entry)) at place (now (numbers .entry)) (now (numbers .exit)) (sectionFound r) ⌝ }
 {
-    let number = counts::count(text, at, lowest, highest);
+    let number = reader::count_at(text, at, lowest, highest);
     let FoundCount::Count(count, first) = number else {
         return FoundSection::Broken(0);
     };

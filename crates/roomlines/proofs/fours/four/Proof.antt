@@ -1,4 +1,4 @@
--- `roomlines::rectangles::four`: each number and the byte after it, in their order.
+-- `roomlines::fours::four`: each number and the byte after it, in their order.
 use mathlib.Core.Path.{refl}
 use borrow.Author.Needs.{needs}
 use mir.Syntax.{w32}
@@ -7,8 +7,8 @@ use Rattle.decimal.specs.Numbers.{isDigit}
 use Rattle.decimal.specs.Answers.{integerFound}
 use Rattle.roomlines.specs.Answers.{fourFound}
 use Rattle.roomlines.proofs.Corners.{Next, next-fits, four-none-1, four-none-2, four-none-3, four-none-4, four-reads}
-use Rattle.roomlines.proofs.rectangles.four.Statement.{statement}
-use Rattle.roomlines.proofs.rectangles.four.Tie as tie
+use Rattle.roomlines.proofs.fours.four.Statement.{statement}
+use Rattle.roomlines.proofs.fours.four.Tie as tie
 
 followed-requires : tie.Need-followed-requires
 unfolding isDigit
