@@ -12,8 +12,8 @@ use borrow.Author.Tests.{leb-true}
 use Rattle.walkgraph.specs.Painting.{rectangle}
 use Rattle.cells.proofs.Bools.{both}
 use Rattle.roomtext.specs.Readings.{RoomTaken}
-use Rattle.roomtext.specs.Verdicts.{inLimits, accepted, refused, JudgesText}
-use Rattle.roomtext.specs.Verdicts as verdicts
+use Rattle.textverdict.specs.Verdicts.{inLimits, accepted, refused, JudgesText}
+use Rattle.textverdict.specs.Verdicts as verdicts
 use Rattle.roomtext.proofs.Buffers.{cells-part, blockers-part, resources-part, targets-left, targets-top, targets-right, targets-bottom}
 use Rattle.page.specs.Puts.{Puts}
 use Rattle.page.specs.Lines.{refusalLine}

@@ -13,7 +13,7 @@ use Rattle.plan.specs.Plans.{inputOf}
 use Rattle.roomlines.specs.Fours.{numbersOf}
 use Rattle.roomrows.specs.Rows.{cellsOf}
 use Rattle.roomtext.specs.Room.{Room, roomText, Formed, Breaks}
-use Rattle.roomtext.specs.Verdicts.{inLimits}
+use Rattle.textverdict.specs.Verdicts.{inLimits}
 use Rattle.page.specs.Lines.{refusalLine}
 use Rattle.sheettext.specs.Sheets.{PutsWithin}
 use Rattle.drawing.specs.Drawings.{Drawing}

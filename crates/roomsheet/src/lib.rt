@@ -1,7 +1,7 @@
 // The sheet of any text, put on a page: the text is read, and its room is drawn.
 use page::lines;
-use roomtext::verdict;
-use roomtext::verdict::Judged;
+use textverdict;
+use textverdict::Judged;
 ghost use Prim.Native.Nat.{_≤_};
 ghost use lib.ListN.{length};
 ghost use Rattle.drawing.specs.Drawings.{PutsDrawing};
@@ -43,7 +43,7 @@ pub fn written(text: &[u8], page: &mut [u8]) -> usize
 {
     let mut cells: [u8; 8192] = [0; 8192];
     let mut numbers: [i32; 8192] = [0; 8192];
-    let judged = verdict::read(text, &mut cells, &mut numbers);
+    let judged = textverdict::read(text, &mut cells, &mut numbers);
     match judged {
         Judged::Refused { number, place } => {
             return lines::refusal(page, 0, number, place);

@@ -15,9 +15,10 @@ use Rattle.roomlines.specs.Fours.{fourLine, numbersOf}
 use Rattle.roomlines.proofs.Parts.{text-append, length-parts}
 use Rattle.sections.proofs.Stored.{numbers-append, numbers-length}
 use Rattle.roomrows.specs.Rows.{cellOf, cellsOf, AllRows, nothing, more}
-use Rattle.roomtext.specs.Room.{counted, roomLines, roomText}
+use Rattle.rectangles.specs.Readings.{counted}
+use Rattle.rectangles.proofs.Taken.{fours-long}
+use Rattle.roomtext.specs.Room.{roomLines, roomText}
 use Rattle.roomtext.specs.Readings.{RoomTaken}
-use Rattle.roomtext.proofs.Taken.{fours-long}
 
 -- ---- a list stored at the start of a buffer
 stored-front {ℓ} : {A : Type ℓ} (before vs : List A) → length vs ≤ length before → sets before 0 vs ≡ vs ++ drop (0 + length vs) before

@@ -10,7 +10,8 @@ use Rattle.decimal.specs.Numbers.{digitsIn, digitsOf, decimalOf}
 use Rattle.textlines.specs.Lines.{textOf}
 use Rattle.roomlines.specs.Fours.{fourLine, Signed32, nothing, more}
 use Rattle.roomrows.proofs.Lined.{all-dots}
-use Rattle.roomtext.specs.Room.{Room, counted, roomLines, roomText, Formed}
+use Rattle.rectangles.specs.Readings.{counted}
+use Rattle.roomtext.specs.Room.{Room, roomLines, roomText, Formed}
 
 -- a map of five by three walkable cells
 abbrev pub example : Room

@@ -15,10 +15,12 @@ use Rattle.roomlines.proofs.Counting.{line-on}
 use Rattle.roomlines.proofs.Corners.{four-one}
 use Rattle.roomrows.specs.Rows.{cellsOf, AllRows}
 use Rattle.roomrows.specs.Rows as rows
-use Rattle.roomtext.specs.Room.{Room, counted, roomLines, roomText, Formed, Breaks}
+use Rattle.rectangles.specs.Readings.{counted}
+use Rattle.rectangles.proofs.Forms.{rectangles-ending, fours-form}
+use Rattle.roomtext.specs.Room.{Room, roomLines, roomText, Formed, Breaks}
 use Rattle.roomtext.specs.Readings.{RoomFound, room, broken-at, RoomTaken, ReadsRoom, reads-room, breaks-at}
 use Rattle.roomtext.proofs.Split.{plain-front, room-plain, Rest, text-split}
-use Rattle.roomtext.proofs.Rooms.{rows-ending, rectangles-ending, rows-form, fours-form}
+use Rattle.roomtext.proofs.Rooms.{rows-ending, rows-form}
 
 -- ---- one line breaks the form
 first-plain : {text : List ℕ} {line : ℕ} (b : Breaks text line) → AllPlain (b .first)

@@ -12,11 +12,12 @@ use Rattle.roomlines.proofs.Parts.{length-parts}
 use Rattle.roomlines.proofs.Counted.{lines-append, breaks-short}
 use Rattle.sections.specs.Storing.{BufferFits}
 use Rattle.roomrows.specs.Rows.{CellsFit, grid, grid-broken, GridTaken, TakesGrid, takes-grid, breaks-grid}
-use Rattle.roomtext.specs.Room.{Room, counted, roomLines, roomText, Formed}
-use Rattle.roomtext.specs.Readings.{RowsForm, tail, tail-broken, TailTaken, TakesTail, takes-tail, breaks-tail, room, broken-at, ReadsRoom, reads-room, breaks-at, RoomFits}
-use Rattle.roomtext.proofs.Joined.{first-breaks, second-breaks}
+use Rattle.rectangles.specs.Readings.{counted, tail, tail-broken, TailTaken, TakesTail, takes-tail, breaks-tail}
+use Rattle.rectangles.proofs.Joined.{first-breaks, second-breaks}
+use Rattle.rectangles.proofs.Taken.{breaks-number, some-tail}
+use Rattle.roomtext.specs.Room.{Room, roomLines, roomText, Formed}
+use Rattle.roomtext.specs.Readings.{RowsForm, room, broken-at, ReadsRoom, reads-room, breaks-at, RoomFits}
 use Rattle.roomtext.proofs.Rooms.{rows-ending, room-form, room-breaks, bytes-after}
-use Rattle.roomtext.proofs.Taken.{breaks-number, some-tail}
 
 pub room-none : {text cells-before cells cells-after : List ℕ} {numbers-before numbers-after : List ℤ} {passed line : ℕ} → TakesGrid text 0 cells-before cells (grid-broken passed) → line ≡ passed + 1 → ReadsRoom text cells-before cells-after numbers-before numbers-after (broken-at line)
 room-none (breaks-grid b) e = rw e (breaks-at (room-breaks (first-breaks rows-ending b _ some-tail)))

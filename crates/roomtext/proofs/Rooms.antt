@@ -11,41 +11,21 @@ use Rattle.roomlines.specs.Fours.{Four, fourLine, FourFits, AllFit, nothing, mo
 use Rattle.roomlines.specs.Forms.{BreaksIn, Counted, FourLines}
 use Rattle.roomlines.proofs.Counting.{line-on}
 use Rattle.roomlines.proofs.Counted.{counted-one}
-use Rattle.sections.proofs.Stored.{fours-sized}
-use Rattle.roomtext.specs.Room.{Room, counted, roomLines, roomText, Formed, Breaks}
-use Rattle.roomtext.specs.Readings.{RowsForm, RectanglesForm, TargetsForm, EndForm, RoomForm}
-use Rattle.roomtext.proofs.Joined.{Ending, carry, both-ending}
+use Rattle.rectangles.specs.Readings.{counted, TargetsForm}
+use Rattle.rectangles.proofs.Joined.{Ending, carry, both-ending}
+use Rattle.rectangles.proofs.Forms.{rectangles-ending, end-ending, fours-form, one-four}
+use Rattle.roomtext.specs.Room.{Room, roomLines, roomText, Formed, Breaks}
+use Rattle.roomtext.specs.Readings.{RowsForm, RoomForm}
 use Rattle.roomtext.proofs.Split.{plain-front, room-plain, Rest, whole-split}
 
 -- ---- each form ends at one place
 pub rows-ending : Ending RowsForm
 rows-ending = record { one = λ x y c d e. counted-one (λ n ls r. r .number) x y c d e }
 
-pub rectangles-ending : Ending RectanglesForm
-rectangles-ending = record { one = λ x y c d e. counted-one (λ n ls f. fours-sized f) x y c d e }
-
-targets-ending : Ending TargetsForm
-targets-ending = record { one = λ x y c d e. counted-one (λ n ls f. fours-sized f) x y c d e }
-
-pub end-ending : Ending EndForm
-end-ending = both-ending rectangles-ending targets-ending
-
 room-ending : Ending RoomForm
 room-ending = both-ending rows-ending (both-ending rectangles-ending end-ending)
 
 -- ---- rectangles as lines
-module _ {lowest highest : ℕ} (fs : List Four) where
-  pub fours-form : AllFit fs → lowest ≤ length fs → length fs ≤ highest → Counted FourLines lowest highest (counted (map fourLine fs))
-  unfolding counted
-  fours-form fit low high = record {
-    number = length fs;
-    low = low;
-    high = high;
-    content = map fourLine fs;
-    form = record { fours = fs; fit = fit; number = refl; is = refl };
-    is = ap (λ (n : ℕ). decimalOf (pos n) ∷ map fourLine fs) (length-map fs fourLine);
-  }
-
 pub targets-form : (f : Four) → FourFits f → TargetsForm (counted (fourLine f ∷ []))
 targets-form f w = fours-form (f ∷ []) (more w nothing) (omega arith) (omega arith)
 
@@ -70,17 +50,6 @@ fours-of c =
   where
     same : {m n : ℕ} {ls ms : List (List ℕ)} → m ≡ n → ls ≡ ms → decimalOf (pos m) ∷ ls ≡ decimalOf (pos n) ∷ ms
     same p q = rw (p, q)
-
--- one rectangle
-pub record OneFour (fs : List Four) : Type 0 where
-  pub f : Four
-  pub fits : FourFits f
-  pub is : fs ≡ f ∷ []
-
-pub one-four : {fs : List Four} → AllFit fs → length fs ≡ 1 → OneFour fs
-one-four nothing h = absurd (omega arith)
-one-four (more {f = f} w nothing) h = record { f = f; fits = w; is = refl }
-one-four (more w (more v a)) h = absurd (omega arith)
 
 -- ---- a room's lines are in the form, and lines in the form are a room's
 pub rows-form : {room : Room} → Formed room → RowsForm (counted (room .rows))

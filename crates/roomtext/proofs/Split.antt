@@ -14,7 +14,8 @@ use Rattle.roomlines.proofs.Counting.{line-on}
 use Rattle.roomrows.specs.Rows.{isCell, RowOf, AllRows}
 use Rattle.roomrows.specs.Rows as rows
 use Rattle.roomrows.proofs.Bits.{line-feed-no-cell}
-use Rattle.roomtext.specs.Room.{Room, counted, roomLines, Formed}
+use Rattle.rectangles.specs.Readings.{counted}
+use Rattle.roomtext.specs.Room.{Room, roomLines, Formed}
 
 -- ---- contents without LF
 plain-cons : (x : ℕ) {l : List ℕ} → (x ≡ 10 → ⊥) → Plain l → Plain (x ∷ l)

@@ -1,4 +1,3 @@
 pub mod Room
 pub mod Readings
-pub mod Verdicts
 pub mod Answers

@@ -2,12 +2,11 @@
 use mathlib.Core.Path.{_≡_}
 use mathlib.Core.List.{List, [], _∷_, _++_, map}
 use Prim.Native.Nat.{ℕ, _+_, _≤_, _<_}
-use lib.IntN.{pos}
 use lib.ListN.{length}
-use Rattle.decimal.specs.Numbers.{decimalOf}
 use Rattle.textlines.specs.Lines.{textOf}
 use Rattle.roomlines.specs.Fours.{Four, fourLine, FourFits, AllFit}
 use Rattle.roomrows.specs.Rows.{AllRows}
+use Rattle.rectangles.specs.Readings.{counted}
 
 -- rows of bytes, rectangles, and the target box
 pub record Room : Type 0 where
@@ -15,10 +14,6 @@ pub record Room : Type 0 where
   pub blockers : List Four
   pub resources : List Four
   pub targets : Four
-
--- "each after its count on a line of its own"
-unfoldable pub counted : List (List ℕ) → List (List ℕ)
-counted lines = decimalOf (pos (length lines)) ∷ lines
 
 -- "Sections in a fixed order": "rows", "blockers, resources, targets (count 1)"
 unfoldable pub roomLines : Room → List (List ℕ)

@@ -6,8 +6,8 @@ use denote.Ref.{now}
 use lib.IntN.{ℤ, pos}
 use lib.ListN.{replicate, length-replicate}
 use borrow.Author.Needs.{needs}
-use Rattle.roomtext.specs.Verdicts.{accepted, refused, JudgesText}
-use Rattle.roomtext.specs.Answers.{verdictOf}
+use Rattle.textverdict.specs.Verdicts.{accepted, refused, JudgesText}
+use Rattle.textverdict.specs.Answers.{verdictOf}
 use Rattle.drawing.proofs.Shows.{line-room}
 use Rattle.roomsheet.proofs.Rooms.{refused-put, read-fits, drawn-sheet}
 use Rattle.roomsheet.proofs.written.Statement.{statement}

@@ -3,8 +3,9 @@ use native.Mathlib.Omega.{arith}
 use borrow.Author.Needs.{needs}
 use Rattle.roomrows.specs.Rows.{GridTaken}
 use Rattle.roomrows.specs.Answers.{gridFound}
-use Rattle.roomtext.specs.Readings.{TailTaken}
-use Rattle.roomtext.specs.Answers.{tailFound, roomFound}
+use Rattle.rectangles.specs.Readings.{TailTaken}
+use Rattle.rectangles.specs.Answers.{tailFound}
+use Rattle.roomtext.specs.Answers.{roomFound}
 use Rattle.roomtext.proofs.Read.{room-none, grid-taken, grid-short, tail-short, tail-taken-of, cells-fit, numbers-fit, room-stops, room-read, room-goes-on}
 use Rattle.roomtext.proofs.room.Statement.{statement}
 use Rattle.roomtext.proofs.room.Tie as tie

@@ -1,15 +1,16 @@
--- `roomtext::verdict::read`: the bytes, the form, and then the other limits.
+-- `textverdict::read`: the bytes, the form, and then the other limits.
 use mathlib.Core.Path.{sym, _∙_}
 use Prim.Native.Nat.{_≤_}
 use native.Mathlib.Omega.{arith}
 use borrow.Author.Needs.{needs}
 use borrow.Author.Tests.{not-true, not-false}
 use lib.ListN.{length}
 use Rattle.roomtext.specs.Readings.{ReadsRoom, room, broken-at}
-use Rattle.roomtext.specs.Answers.{roomFound, verdictOf}
-use Rattle.roomtext.proofs.Judging.{room-fits, long-text, broken-text, broken-line, large-text, good-text}
-use Rattle.roomtext.proofs.verdict.read.Statement.{statement}
-use Rattle.roomtext.proofs.verdict.read.Tie as tie
+use Rattle.roomtext.specs.Answers.{roomFound}
+use Rattle.textverdict.specs.Answers.{verdictOf}
+use Rattle.textverdict.proofs.Judging.{room-fits, long-text, broken-text, broken-line, large-text, good-text}
+use Rattle.textverdict.proofs.read.Statement.{statement}
+use Rattle.textverdict.proofs.read.Tie as tie
 
 returns : tie.Need-returns
 unfolding verdictOf

@@ -1,13 +1,13 @@
--- `roomtext::end`: the resources, and then the targets, whose count is 1.
+-- `rectangles::end`: the resources, and then the targets, whose count is 1.
 use mathlib.Core.Path.{refl}
 use native.Mathlib.Omega.{arith}
 use borrow.Author.Needs.{needs}
 use Rattle.sections.specs.Storing.{SectionTaken}
 use Rattle.sections.specs.Answers.{sectionFound}
-use Rattle.roomtext.specs.Answers.{endFound}
-use Rattle.roomtext.proofs.Taken.{in-limits, section-taken, section-short, fits-after, end-none, end-breaks, end-taken}
-use Rattle.roomtext.proofs.end.Statement.{statement}
-use Rattle.roomtext.proofs.end.Tie as tie
+use Rattle.rectangles.specs.Answers.{endFound}
+use Rattle.rectangles.proofs.Taken.{in-limits, section-taken, section-short, fits-after, end-none, end-breaks, end-taken}
+use Rattle.rectangles.proofs.end.Statement.{statement}
+use Rattle.rectangles.proofs.end.Tie as tie
 
 section-requires : tie.Need-section-requires
 section-requires c κs = search needs

@@ -1,8 +1,9 @@
 // What the program makes of a text: too long, broken at a line, too large, or a room.
-use crate::Reading;
+use roomtext;
+use roomtext::Reading;
 ghost use mathlib.Core.Path.{_≡_};
-ghost use Rattle.roomtext.specs.Verdicts.{inLimits, JudgesText, TextFits};
-ghost use Rattle.roomtext.specs.Answers.{verdictOf};
+ghost use Rattle.textverdict.specs.Verdicts.{inLimits, JudgesText, TextFits};
+ghost use Rattle.textverdict.specs.Answers.{verdictOf};
 
 // The size of the map and how many blockers and resources there are, or a refusal's number and place.
 pub enum Judged {
@@ -45,7 +46,7 @@ pub fn read(text: &[u8], cells: &mut [u8], numbers: &mut [i32]) -> Judged
             place: 0,
         };
     }
-    let found = crate::room(text, cells, numbers);
+    let found = roomtext::room(text, cells, numbers);
     match found {
         Reading::Broken { line } => {
             return Judged::Refused {

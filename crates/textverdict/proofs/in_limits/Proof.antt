@@ -1,8 +1,8 @@
--- `roomtext::verdict::in_limits`: each limit in its turn.
+-- `textverdict::in_limits`: each limit in its turn.
 use native.Mathlib.Omega.{arith}
-use Rattle.roomtext.proofs.Judging.{many-rows, many-columns, many-blockers, resources-left}
-use Rattle.roomtext.proofs.verdict.in_limits.Statement.{statement}
-use Rattle.roomtext.proofs.verdict.in_limits.Tie as tie
+use Rattle.textverdict.proofs.Judging.{many-rows, many-columns, many-blockers, resources-left}
+use Rattle.textverdict.proofs.in_limits.Statement.{statement}
+use Rattle.textverdict.proofs.in_limits.Tie as tie
 
 returns : tie.Need-returns
 returns c = many-rows (c .before .args .width) (c .before .args .height) (c .before .args .blockers) (c .before .args .resources) (omega (arith, c .if1 .taken))

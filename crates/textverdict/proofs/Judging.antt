@@ -11,9 +11,9 @@ use lib.ListN.{length, length-append}
 use Rattle.decimal.proofs.Digits.{clash}
 use Rattle.textlines.specs.Lines.{textOf}
 use Rattle.roomlines.proofs.Parts.{text-long}
 use Rattle.roomtext.specs.Readings.{RoomFound, room, broken-at, ReadsRoom, reads-room, breaks-at, RoomFits}
-use Rattle.roomtext.specs.Verdicts.{inLimits, Verdict, accepted, refused, JudgesText, too-many-bytes, breaks-form, too-large, accepts, TextFits}
+use Rattle.textverdict.specs.Verdicts.{inLimits, Verdict, accepted, refused, JudgesText, too-many-bytes, breaks-form, too-large, accepts, TextFits}
 use Rattle.roomtext.proofs.One.{breaks-one, taken-one}
 
 -- ---- the limits
 module _ (width height blockers resources : ℕ) where

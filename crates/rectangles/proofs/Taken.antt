@@ -1,4 +1,4 @@
--- Sections that were read one after another, up to the whole room.
+-- Sections of rectangles that were read one after another.
 use mathlib.Core.Path.{_≡_, refl, sym, ap, _∙_}
 use mathlib.Core.List.{List, [], _∷_, _++_, map, append-nil}
 use Prim.Native.Nat.{ℕ, _+_, _*_, _≤_}
@@ -15,10 +15,9 @@ use Rattle.roomlines.proofs.Parts.{sets-append}
 use Rattle.roomlines.proofs.Counted.{lines-append, lines-past, breaks-short}
 use Rattle.sections.specs.Storing.{BufferFits, SectionFound, section, section-broken, SectionTaken, TakesSection, takes-section, breaks-section}
 use Rattle.sections.proofs.Stored.{zeros, zeros-fit, numbers-append, numbers-length, four-long}
-use Rattle.roomtext.specs.Room.{counted}
-use Rattle.roomtext.specs.Readings.{RectanglesForm, TargetsForm, EndForm, TailForm, end, end-broken, EndTaken, TakesEnd, takes-end, breaks-end, tail, tail-broken, TakesTail, takes-tail, breaks-tail}
-use Rattle.roomtext.proofs.Joined.{first-breaks, second-breaks}
-use Rattle.roomtext.proofs.Rooms.{rectangles-ending, fours-form, OneFour, one-four}
+use Rattle.rectangles.specs.Readings.{counted, RectanglesForm, TargetsForm, EndForm, TailForm, end, end-broken, EndTaken, TakesEnd, takes-end, breaks-end, tail, tail-broken, TakesTail, takes-tail, breaks-tail}
+use Rattle.rectangles.proofs.Joined.{first-breaks, second-breaks}
+use Rattle.rectangles.proofs.Forms.{rectangles-ending, fours-form, OneFour, one-four}
 
 -- ---- numbers stored after others
 pub stored-join : (before : List ℤ) (place to : ℕ) (fs gs : List Four) → to ≡ place + 4 * length fs → sets (sets before place (numbersOf fs)) to (numbersOf gs) ≡ sets before place (numbersOf (fs ++ gs))

@@ -7,7 +7,7 @@ use lib.ListN.{length, length-append}
 use Rattle.textlines.specs.Lines.{textOf}
 use Rattle.roomlines.specs.Forms.{BreaksIn}
 use Rattle.roomlines.proofs.Parts.{text-append}
-use Rattle.roomtext.specs.Readings.{Both}
+use Rattle.rectangles.specs.Readings.{Both}
 
 -- lines in a form are the start of no other lines in it
 pub record Ending (Form : List (List ℕ) → Type 0) : Type 0 where

@@ -1,12 +1,12 @@
--- `roomtext::tail`: the blockers, and then the resources and the targets.
+-- `rectangles::tail`: the blockers, and then the resources and the targets.
 use native.Mathlib.Omega.{arith}
 use borrow.Author.Needs.{needs}
 use Rattle.sections.specs.Storing.{SectionTaken}
 use Rattle.sections.specs.Answers.{sectionFound}
-use Rattle.roomtext.specs.Answers.{endFound, tailFound}
-use Rattle.roomtext.proofs.Taken.{in-limits, section-taken, fits-after, end-short, tail-none, tail-breaks, tail-taken}
-use Rattle.roomtext.proofs.tail.Statement.{statement}
-use Rattle.roomtext.proofs.tail.Tie as tie
+use Rattle.rectangles.specs.Answers.{endFound, tailFound}
+use Rattle.rectangles.proofs.Taken.{in-limits, section-taken, fits-after, end-short, tail-none, tail-breaks, tail-taken}
+use Rattle.rectangles.proofs.tail.Statement.{statement}
+use Rattle.rectangles.proofs.tail.Tie as tie
 
 section-requires : tie.Need-section-requires
 section-requires c κs = search needs
