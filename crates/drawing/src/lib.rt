@@ -2,7 +2,7 @@
 use cells::boxes::CellBox;
 use field::Answer;
 use page::lines;
-use sheettext::whole;
+use sheettext;
 use window::record::Window;
 ghost use mathlib.Core.Path.{_≡_};
 ghost use Rattle.cells.specs.Boxes.{boxOf};
@@ -29,7 +29,7 @@ fn shown(
 {
     let mut answers: [u16; 8] = [0; 8];
     let fields = groups::groups(width, height, cells, resources, &mut answers);
-    whole::sheet(
+    sheettext::sheet(
         page,
         window,
         sweeps,

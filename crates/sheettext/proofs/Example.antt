@@ -12,7 +12,8 @@ use Rattle.reading.specs.Parts.{partOf}
 use Rattle.ringlists.specs.Places.{inOrder}
 use Rattle.page.specs.Lines.{numberThen, wordLine, fourLine, windowWord, windowLine, sweepsWord, sweepsLine, cellsWord, cellsLine, groupsWord, groupsLine, fieldLine}
 use Rattle.celllines.specs.Costs.{costBytes, costText, costAt, costTexts, cellLine}
-use Rattle.sheettext.specs.Sheets.{lineAt, rowLines, targetLines, targetCells, headLines, fieldLines, groupLines, sheetText}
+use Rattle.targetlines.specs.Targets.{lineAt, rowLines, targetLines}
+use Rattle.sheettext.specs.Sheets.{targetCells, headLines, fieldLines, groupLines, sheetText}
 
 -- a cell's eight lanes, of which the first is a resource's
 abbrev cell : ℕ → List ℤ

@@ -1,12 +1,12 @@
--- `sheettext::whole::fields`: the lines of the resources that the loop passed are put.
+-- `sheettext::fields`: the lines of the resources that the loop passed are put.
 use mathlib.Core.Path.{_≡_}
 use Prim.Native.Nat.{_*_, _-_, _≤_}
 use native.Mathlib.Omega.{arith}
 use Rattle.page.proofs.Putting.{puts-length}
 use Rattle.sheettext.specs.Sheets.{fieldLines, PutsWithin}
 use Rattle.sheettext.proofs.Sheets.{fields-none, fields-more, within-none, within-more, within-most}
-use Rattle.sheettext.proofs.whole.fields.Statement.{statement}
-use Rattle.sheettext.proofs.whole.fields.Tie as tie
+use Rattle.sheettext.proofs.fields.Statement.{statement}
+use Rattle.sheettext.proofs.fields.Tie as tie
 
 abbrev Inv-loop : tie.InvT-loop
 Inv-loop page₀ at answers resources end₀ r₀ page end r = (r ≤ resources) × PutsWithin (r * 6) (fieldLines answers r) page₀ at page end

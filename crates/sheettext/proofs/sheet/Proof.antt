@@ -1,8 +1,8 @@
--- `sheettext::whole::sheet`: the lines before the target cells, those of the cells, and those after them, with room for the most that each can be.
+-- `sheettext::sheet`: the lines before the target cells, those of the cells, and those after them, with room for the most that each can be.
 use borrow.Author.Needs.{needs}
 use Rattle.sheettext.proofs.Sheets.{sheet-head, sheet-targets, sheet-groups, sheet-all}
-use Rattle.sheettext.proofs.whole.sheet.Statement.{statement}
-use Rattle.sheettext.proofs.whole.sheet.Tie as tie
+use Rattle.sheettext.proofs.sheet.Statement.{statement}
+use Rattle.sheettext.proofs.sheet.Tie as tie
 
 head-requires : tie.Need-head-requires
 head-requires c κs = sheet-head (c .before .before .before .pre)

@@ -1,10 +1,10 @@
-// The lines of the target cells, row by row.
+// The lines of the target cells, row by row, put on a page. Each function answers the place after what it put.
 use cells::boxes::CellBox;
 use window::record::Window;
 ghost use Rattle.cells.specs.Boxes.{boxOf};
 ghost use Rattle.window.specs.Windows.{asRecord};
 ghost use Rattle.page.specs.Puts.{Puts};
-ghost use Rattle.sheettext.specs.Sheets.{lineAt, rowLines, targetLines, LineRoom, RowRoom, TargetRoom};
+ghost use Rattle.targetlines.specs.Targets.{lineAt, rowLines, targetLines, LineRoom, RowRoom, TargetRoom};
 
 // Puts the line of the cell (x, y), whose lanes are read by the window's record.
 pub fn line(

@@ -1,12 +1,12 @@
--- `sheettext::whole::groups`: the number of fields, and then each field.
+-- `sheettext::groups`: the number of fields, and then each field.
 use native.Mathlib.Omega.{arith}
 use borrow.Author.Needs.{needs}
 use Rattle.page.proofs.Lengths.{groups-most}
 use Rattle.page.proofs.Putting.{puts-length}
 use Rattle.sheettext.specs.Sheets.{groupLines}
 use Rattle.sheettext.proofs.Sheets.{within-more, within-length}
-use Rattle.sheettext.proofs.whole.groups.Statement.{statement}
-use Rattle.sheettext.proofs.whole.groups.Tie as tie
+use Rattle.sheettext.proofs.groups.Statement.{statement}
+use Rattle.sheettext.proofs.groups.Tie as tie
 
 groups-line-requires : tie.Need-groups-line-requires
 groups-line-requires c κs = record { room = omega (arith, c .before .before .before .pre .text, groups-most 1 (c .before .before .before .args .groups) (omega arith) (c .before .before .before .pre .fewer)) }

@@ -1,11 +1,11 @@
--- `sheettext::whole::field`: a u16 has at most five digits.
+-- `sheettext::field`: a u16 has at most five digits.
 use native.Mathlib.Omega.{arith}
 use borrow.Author.Needs.{needs}
 use Rattle.page.specs.Lines.{fieldLine}
 use Rattle.page.proofs.Lengths.{then-most}
 use Rattle.sheettext.proofs.Sheets.{within-length}
-use Rattle.sheettext.proofs.whole.field.Statement.{statement}
-use Rattle.sheettext.proofs.whole.field.Tie as tie
+use Rattle.sheettext.proofs.field.Statement.{statement}
+use Rattle.sheettext.proofs.field.Tie as tie
 
 number-then-requires : tie.Need-number-then-requires
 number-then-requires c κs =

@@ -1,8 +1,8 @@
--- `sheettext::targets::line`: the cell's part of the lanes is what reading it hands back.
+-- `targetlines::line`: the cell's part of the lanes is what reading it hands back.
 use borrow.Author.Needs.{needs}
-use Rattle.sheettext.specs.Sheets.{lineAt}
-use Rattle.sheettext.proofs.targets.line.Statement.{statement}
-use Rattle.sheettext.proofs.targets.line.Tie as tie
+use Rattle.targetlines.specs.Targets.{lineAt}
+use Rattle.targetlines.proofs.line.Statement.{statement}
+use Rattle.targetlines.proofs.line.Tie as tie
 
 cast-at : tie.Need-cast-at
 cast-at c = search needs

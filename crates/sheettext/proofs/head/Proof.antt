@@ -1,4 +1,4 @@
--- `sheettext::whole::head`: three lines, one after another; the target cells are at most 3,600.
+-- `sheettext::head`: three lines, one after another; the target cells are at most 3,600.
 use mathlib.Core.List.{_++_}
 use native.Mathlib.Omega.{arith}
 use borrow.Author.Needs.{needs}
@@ -7,8 +7,8 @@ use Rattle.page.specs.Lines.{windowLine, sweepsLine, cellsLine}
 use Rattle.page.proofs.Putting.{puts-more, room-first, room-more}
 use Rattle.sheettext.specs.Sheets.{targetCells, headLines}
 use Rattle.sheettext.proofs.Sheets.{cells-few}
-use Rattle.sheettext.proofs.whole.head.Statement.{statement}
-use Rattle.sheettext.proofs.whole.head.Tie as tie
+use Rattle.sheettext.proofs.head.Statement.{statement}
+use Rattle.sheettext.proofs.head.Tie as tie
 
 add-columns : tie.Need-add-columns
 add-columns c = search needs

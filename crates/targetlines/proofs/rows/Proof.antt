@@ -1,14 +1,14 @@
--- `sheettext::targets::rows`: the rows that the loop passed are put.
+-- `targetlines::rows`: the rows that the loop passed are put.
 use Prim.Native.Nat.{_+_, _-_, _≤_}
 use native.Mathlib.Omega.{arith}
 use Rattle.cells.specs.Boxes.{boxOf}
 use Rattle.window.specs.Windows.{asRecord}
 use Rattle.page.specs.Puts.{Puts}
 use Rattle.page.proofs.Putting.{puts-none, puts-length, room-next}
-use Rattle.sheettext.specs.Sheets.{rowLines}
-use Rattle.sheettext.proofs.Sheets.{firstRows, rows-none, rows-put, rows-room, rows-all}
-use Rattle.sheettext.proofs.targets.rows.Statement.{statement}
-use Rattle.sheettext.proofs.targets.rows.Tie as tie
+use Rattle.targetlines.specs.Targets.{rowLines}
+use Rattle.targetlines.proofs.Targets.{firstRows, rows-none, rows-put, rows-room, rows-all}
+use Rattle.targetlines.proofs.rows.Statement.{statement}
+use Rattle.targetlines.proofs.rows.Tie as tie
 
 abbrev Inv-loop : tie.InvT-loop
 Inv-loop page₀ at window lanes resources targets end₀ k₀ k-end page end k =

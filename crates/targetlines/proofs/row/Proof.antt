@@ -1,14 +1,14 @@
--- `sheettext::targets::row`: the lines of the cells that the loop passed are put.
+-- `targetlines::row`: the lines of the cells that the loop passed are put.
 use Prim.Native.Nat.{_+_, _-_, _≤_}
 use native.Mathlib.Omega.{arith}
 use Rattle.cells.specs.Boxes.{boxOf}
 use Rattle.window.specs.Windows.{asRecord}
 use Rattle.page.specs.Puts.{Puts}
 use Rattle.page.proofs.Putting.{puts-none, puts-length, room-next}
-use Rattle.sheettext.specs.Sheets.{lineAt}
-use Rattle.sheettext.proofs.Sheets.{firstLines, lines-none, lines-put, lines-room, lines-all}
-use Rattle.sheettext.proofs.targets.row.Statement.{statement}
-use Rattle.sheettext.proofs.targets.row.Tie as tie
+use Rattle.targetlines.specs.Targets.{lineAt}
+use Rattle.targetlines.proofs.Targets.{firstLines, lines-none, lines-put, lines-room, lines-all}
+use Rattle.targetlines.proofs.row.Statement.{statement}
+use Rattle.targetlines.proofs.row.Tie as tie
 
 abbrev Inv-loop : tie.InvT-loop
 Inv-loop page₀ at window lanes resources targets y end₀ k₀ k-end page end k =

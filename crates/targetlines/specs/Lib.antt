@@ -1,0 +1,2 @@
+-- The lines of the target cells.
+pub mod Targets
