@@ -22,7 +22,8 @@ use Rattle.judge.proofs.Judging.{accepted-parts}
 use Rattle.window.proofs.Edges.{window-in-map}
 use Rattle.plan.specs.Plans.{cellsOf}
 use Rattle.groups.specs.Groups.{GroupsFit}
-use Rattle.drawing.specs.Drawings.{zeroField, zeroAnswers, ShownFits, Natural, DrawFits}
+use Rattle.fieldsheet.specs.Shown.{zeroAnswers, ShownFits}
+use Rattle.drawing.specs.Drawings.{zeroField, Natural, DrawFits}
 
 -- what the table judges before the lent buffers
 record Found (i : FieldInput) : Type 0 where

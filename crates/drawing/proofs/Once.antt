@@ -1,21 +1,15 @@
 -- A room has one sheet.
-use mathlib.Core.Path.{_≡_, refl, sym, _∙_}
+use mathlib.Core.Path.{_≡_, refl}
 use mathlib.Core.List.{List}
 use Prim.Native.Nat.{ℕ}
-use lib.IntN.{ℤ}
-use Rattle.walkgraph.specs.Map.{Box}
 use Rattle.walkgraph.specs.Buffers.{Lent}
 use Rattle.walkgraph.specs.Reading.{WindowRecord}
 use Rattle.walkgraph.specs.Refusals.{accepted, FieldInput, fieldVerdict}
 use Rattle.walkgraph.specs.Promise.{FieldPromise, made, nothing, makes}
 use Rattle.walkgraph.proofs.Promises.{clash, same-number, promise-one}
 use Rattle.cells.specs.Boxes.{reach}
-use Rattle.groups.proofs.Once.{groups-one}
-use Rattle.drawing.specs.Drawings.{zeroField, Shown, Drawn, Drawing, refused-line, drawn}
-
-module _ {w h : ℕ} {cells : List ℕ} {l : List ℤ} {targets : Box} {window : WindowRecord} {sweeps : ℕ} {lanes : List ℤ} {d e : List ℕ} where
-  shown-one : Shown w h cells l window sweeps targets lanes d → Shown w h cells l window sweeps targets lanes e → d ≡ e
-  shown-one p q = let same = groups-one (p .grouped) (q .grouped) in p .is ∙ rw (same .0, same .1) (sym (q .is))
+use Rattle.fieldsheet.proofs.Once.{shown-one}
+use Rattle.drawing.specs.Drawings.{zeroField, Drawn, Drawing, refused-line, drawn}
 
 made-accepted : (i : FieldInput) {before after : Lent} {window : WindowRecord} {sweeps : ℕ} → FieldPromise reach i before after (made window sweeps) → fieldVerdict reach i before ≡ accepted
 made-accepted i (nothing ok none) = ok

@@ -1,40 +1,28 @@
 -- Document 01, "Room text and the program", Output: what the sheet of a room is, whose text was accepted, and when a page has room for it.
 use mathlib.Core.Path.{_≡_}
 use mathlib.Core.List.{List}
-use Prim.Native.Nat.{ℕ, _/_, _≤_, _<_}
-use lib.IntN.{ℤ, pos}
+use Prim.Native.Nat.{ℕ, _≤_}
+use lib.IntN.{pos}
 use lib.ListN.{length, replicate}
-use Rattle.walkgraph.specs.Map.{Box}
 use Rattle.walkgraph.specs.Painting.{Rectangle}
 use Rattle.walkgraph.specs.Ring.{pixel}
 use Rattle.walkgraph.specs.Buffers.{Lent}
 use Rattle.walkgraph.specs.Reading.{WindowRecord}
 use Rattle.walkgraph.specs.Refusals.{FieldInput, fieldVerdict, refused}
 use Rattle.walkgraph.specs.Promise.{FieldPromise, made}
-use Rattle.cells.specs.Boxes.{reach, InMap}
+use Rattle.cells.specs.Boxes.{reach}
 use Rattle.plan.specs.Plans.{cellsOf}
 use Rattle.make.specs.Makes.{lent}
-use Rattle.groups.specs.Groups.{GroupsFit, Grouped}
 use Rattle.page.specs.Lines.{refusalLine}
-use Rattle.sheettext.specs.Sheets.{sheetText, PutsWithin}
+use Rattle.sheettext.specs.Sheets.{PutsWithin}
+use Rattle.fieldsheet.specs.Shown.{Shown}
 
 -- buffers of zeros for the field of 60 rows of 60 columns at 8 lanes: "P x lanes i16, P bytes of walk, P bytes of flags, 2H u16 of row intervals (two a row), and three version
 -- buffers of H+2 u32"
 abbrev pub zeroField : Lent
 zeroField = lent (replicate 30752 (pos 0)) (replicate 3844 0) (replicate 3844 0) (replicate 120 0) (replicate 62 0) (replicate 62 0) (replicate 62 0)
 
--- an answer for each of 8 resources
-abbrev pub zeroAnswers : List ℕ
-zeroAnswers = replicate 8 0
-
 -- ---- the sheet of a room
-
--- "number of fields; per resource its field", behind the window, the sweep count and the target cells
-pub record Shown (width height : ℕ) (cells : List ℕ) (resources : List ℤ) (window : WindowRecord) (sweeps : ℕ) (targets : Box) (lanes : List ℤ) (text : List ℕ) : Type 0 where
-  pub groups : ℕ
-  pub answers : List ℕ
-  pub grouped : Grouped width height cells resources zeroAnswers answers groups
-  pub is : text ≡ sheetText window sweeps targets lanes (length resources / 4) groups answers
 
 -- the field, and the sheet that shows it
 pub record Drawn (input : FieldInput) (text : List ℕ) : Type 0 where
@@ -52,26 +40,10 @@ pub data Drawing (input : FieldInput) : List ℕ → Type 0 where
 
 -- ---- on a page
 
-pub record PutsShown (width height : ℕ) (cells : List ℕ) (resources : List ℤ) (window : WindowRecord) (sweeps : ℕ) (targets : Box) (lanes : List ℤ) (before after : List ℕ) (end : ℕ) : Type 0 where
-  pub text : List ℕ
-  pub shown : Shown width height cells resources window sweeps targets lanes text
-  pub puts : PutsWithin 200000 text before 0 after end
-
 pub record PutsDrawing (input : FieldInput) (before after : List ℕ) (end : ℕ) : Type 0 where
   pub text : List ℕ
   pub drawing : Drawing input text
   pub puts : PutsWithin 200000 text before 0 after end
-
--- a room whose field is made, with a window and targets on its map, and a page
-pub record ShownFits (width height : ℕ) (cells : List ℕ) (resources : List ℤ) (window : WindowRecord) (sweeps : ℕ) (targets : Box) (page : List ℕ) : Type 0 where
-  pub groups : GroupsFit width height cells resources zeroAnswers
-  pub left : window .left < 1000
-  pub top : window .top < 1000
-  pub wide : window .width < 1000
-  pub tall : window .height < 1000
-  pub swept : sweeps < 1000
-  pub box : InMap 60 60 targets
-  pub room : 200000 ≤ length page
 
 -- the four numbers of a box are not negative
 pub record Natural (box : Rectangle) : Type 0 where

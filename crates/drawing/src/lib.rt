@@ -1,45 +1,13 @@
-// The sheet of a room, put on a page: the field call judges the room and makes its field, its resources' fields are found, and the sheet shows both.
+// The sheet of a room, put on a page: the field call judges the room and makes its field, and the sheet shows it with its resources' fields.
 use cells::boxes::CellBox;
 use field::Answer;
+use fieldsheet;
 use page::lines;
-use sheettext;
-use window::record::Window;
 ghost use mathlib.Core.Path.{_≡_};
 ghost use Rattle.cells.specs.Boxes.{boxOf};
 ghost use Rattle.rings.specs.Rings.{corners};
-ghost use Rattle.window.specs.Windows.{asRecord};
 ghost use Rattle.plan.specs.Plans.{cellsOf, inputOf};
-ghost use Rattle.drawing.specs.Drawings.{ShownFits, PutsShown, Natural, DrawFits, PutsDrawing};
-
-// Puts the sheet of a room whose field is made, from the page's start on; answers where it ends.
-fn shown(
-    page: &mut [u8],
-    width: u32,
-    height: u32,
-    cells: &[u8],
-    resources: &[i32],
-    window: Window,
-    sweeps: usize,
-    targets: CellBox,
-    lanes: &[i16],
-) -> usize
-    requires { ⌜ ShownFits width height (now cells) (now resources) (asRecord window) sweeps (boxOf targets) (now page) ⌝ }
-    ensures { λ r. ⌜ PutsShown width height (now (cells .entry)) (now (resources .entry)) (asRecord window) sweeps (boxOf targets) (now (lanes .entry))
-        (now (page .entry)) (now (page .exit)) r ⌝ }
-{
-    let mut answers: [u16; 8] = [0; 8];
-    let fields = groups::groups(width, height, cells, resources, &mut answers);
-    sheettext::sheet(
-        page,
-        window,
-        sweeps,
-        targets,
-        lanes,
-        resources.len() / 4,
-        fields,
-        &answers,
-    )
-}
+ghost use Rattle.drawing.specs.Drawings.{Natural, DrawFits, PutsDrawing};
 
 // The cells of an accepted target box.
 fn cells_of(left: i32, top: i32, right: i32, bottom: i32) -> CellBox
@@ -103,7 +71,7 @@ pub fn draw(
         }
         Answer::Made { window, sweeps } => {
             let targets = cells_of(left, top, right, bottom);
-            return shown(
+            return fieldsheet::shown(
                 page,
                 width,
                 height,

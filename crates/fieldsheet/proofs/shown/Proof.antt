@@ -1,9 +1,9 @@
--- `drawing::shown`: the fields are found, and the sheet has room.
+-- `fieldsheet::shown`: the fields are found, and the sheet has room.
 use native.Mathlib.Omega.{arith}
 use borrow.Author.Needs.{needs}
-use Rattle.drawing.proofs.Shows.{sheet-room, shown-put}
-use Rattle.drawing.proofs.shown.Statement.{statement}
-use Rattle.drawing.proofs.shown.Tie as tie
+use Rattle.fieldsheet.proofs.Shows.{sheet-room, shown-put}
+use Rattle.fieldsheet.proofs.shown.Statement.{statement}
+use Rattle.fieldsheet.proofs.shown.Tie as tie
 
 slice-aggregate-groups : tie.Need-slice-aggregate-groups
 slice-aggregate-groups c = search needs

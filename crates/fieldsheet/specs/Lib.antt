@@ -1,0 +1,2 @@
+-- The sheet of a room whose field is made.
+pub mod Shown
