@@ -7,4 +7,3 @@ pub mod Growing
 pub mod Limits
 pub mod Signs
 pub mod RoundTrip
-pub mod Following

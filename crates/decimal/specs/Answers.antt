@@ -1,17 +1,10 @@
--- The code's answers as what was found.
+-- The code's answer as what was found.
 use lib.IntN.{pos}
 use Rattle.decimal.specs.Numbers.{Found, number, nothing}
 use Rattle.decimal.specs.declared.read.FoundNatural.{FoundNatural}
 use Rattle.decimal.specs.declared.read.FoundNatural.the-variants as natural
-use Rattle.decimal.specs.declared.read.FoundInteger.{FoundInteger}
-use Rattle.decimal.specs.declared.read.FoundInteger.the-variants as integer
 
 -- a number that is not negative, and the place after it
 unfoldable pub naturalFound : FoundNatural → Found
 naturalFound (natural.Number value past) = number (pos value) past
 naturalFound natural.Nothing = nothing
-
--- a number, and the place after it
-unfoldable pub integerFound : FoundInteger → Found
-integerFound (integer.Number value past) = number value past
-integerFound integer.Nothing = nothing

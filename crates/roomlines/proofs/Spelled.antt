@@ -9,7 +9,7 @@ use lib.ListN.{length, drop, length-append, length-drop}
 use lib.Seq.{drop-drop, drop-append-add}
 use Rattle.decimal.specs.Numbers.{isDigit, decimalOf, Within, nothing, FollowedAt, ReadsFollowed, refuses-followed}
 use Rattle.decimal.proofs.Places.{number-one}
-use Rattle.decimal.proofs.Following.{follows, number-there}
+use Rattle.followednumbers.proofs.Following.{follows, number-there}
 
 -- a text in two parts, from a place on
 pub part-length : (text : List ℕ) (at : ℕ) (l r : List ℕ) → drop at text ≡ l ++ r → length text - at ≡ length l + length r

@@ -1,6 +1,6 @@
 // A count on a line of its own.
-use decimal::read;
-use decimal::read::FoundInteger;
+use followednumbers;
+use integers::FoundInteger;
 ghost use Prim.Native.Nat.{_≤_};
 ghost use Rattle.roomlines.specs.Forms.{ReadsCount};
 ghost use Rattle.roomlines.specs.Answers.{countFound};
@@ -16,7 +16,7 @@ pub fn count(text: &[u8], at: usize, lowest: u32, highest: u32) -> FoundCount
     requires { ⌜ (lowest ≤ 2147483647) × (highest ≤ 2147483647) ⌝ }
     ensures { λ r. ⌜ ReadsCount lowest highest (now (text .entry)) at (countFound r) ⌝ }
 {
-    let found = read::followed(text, at, b'\n', lowest as i32, highest as i32);
+    let found = followednumbers::followed(text, at, b'\n', lowest as i32, highest as i32);
     let FoundInteger::Number(number, past) = found else {
         return FoundCount::Nothing;
     };

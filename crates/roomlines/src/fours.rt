@@ -1,6 +1,6 @@
 // A line of four numbers.
-use decimal::read;
-use decimal::read::FoundInteger;
+use followednumbers;
+use integers::FoundInteger;
 ghost use Rattle.roomlines.specs.Fours.{ReadsFour};
 ghost use Rattle.roomlines.specs.Answers.{fourFound};
 
@@ -14,19 +14,19 @@ pub enum FoundFour {
 pub fn four(text: &[u8], at: usize) -> FoundFour
     ensures { λ r. ⌜ ReadsFour (now (text .entry)) at (fourFound r) ⌝ }
 {
-    let first = read::followed(text, at, b' ', -2147483648, 2147483647);
+    let first = followednumbers::followed(text, at, b' ', -2147483648, 2147483647);
     let FoundInteger::Number(left, to_top) = first else {
         return FoundFour::Nothing;
     };
-    let second = read::followed(text, to_top, b' ', -2147483648, 2147483647);
+    let second = followednumbers::followed(text, to_top, b' ', -2147483648, 2147483647);
     let FoundInteger::Number(top, to_right) = second else {
         return FoundFour::Nothing;
     };
-    let third = read::followed(text, to_right, b' ', -2147483648, 2147483647);
+    let third = followednumbers::followed(text, to_right, b' ', -2147483648, 2147483647);
     let FoundInteger::Number(right, to_bottom) = third else {
         return FoundFour::Nothing;
     };
-    let fourth = read::followed(text, to_bottom, b'\n', -2147483648, 2147483647);
+    let fourth = followednumbers::followed(text, to_bottom, b'\n', -2147483648, 2147483647);
     let FoundInteger::Number(bottom, past) = fourth else {
         return FoundFour::Nothing;
     };

@@ -6,7 +6,7 @@ use lib.IntN.{pos}
 use mir.Syntax.{w32}
 use mir.ValLaws.{toZ-ofZ, toZ-pos}
 use Rattle.decimal.specs.Numbers.{isDigit, ReadsFollowed, number}
-use Rattle.decimal.specs.Answers.{integerFound}
+use Rattle.integers.specs.Answers.{integerFound}
 use Rattle.roomlines.specs.Answers.{countFound}
 use Rattle.roomlines.proofs.Counting.{count-none, count-reads, count-fits, count-sign}
 use Rattle.roomlines.proofs.counts.count.Statement.{statement}

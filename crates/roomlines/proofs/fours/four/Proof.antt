@@ -4,7 +4,7 @@ use borrow.Author.Needs.{needs}
 use mir.Syntax.{w32}
 use mir.ValLaws.{toZ-ofZ}
 use Rattle.decimal.specs.Numbers.{isDigit}
-use Rattle.decimal.specs.Answers.{integerFound}
+use Rattle.integers.specs.Answers.{integerFound}
 use Rattle.roomlines.specs.Answers.{fourFound}
 use Rattle.roomlines.proofs.Corners.{Next, next-fits, four-none-1, four-none-2, four-none-3, four-none-4, four-reads}
 use Rattle.roomlines.proofs.fours.four.Statement.{statement}

@@ -1,4 +1,4 @@
--- `decimal::read::integer`: by its sign, and then by what the digits say.
+-- `integers::integer`: by its sign, and then by what the digits say.
 use mathlib.Core.Path.{_≡_, sym, _∙_}
 use Prim.Native.Nat.{_+_, _≤_, _<_}
 use native.Mathlib.Omega.{arith}
@@ -9,12 +9,14 @@ use lib.ListN.{length, getD}
 use mir.Syntax.{w32}
 use mir.Val.{toZ}
 use mir.ValLaws.{toZ-ofZ, toZ-pos}
 use Rattle.decimal.specs.Numbers.{Reads, number}
-use Rattle.decimal.specs.Answers.{naturalFound, integerFound}
+use Rattle.decimal.specs.Answers.{naturalFound}
+use Rattle.integers.specs.Answers.{integerFound}
 use Rattle.decimal.proofs.Places.{minus-inside}
-use Rattle.decimal.proofs.Limits.{natural-most, minus-nothing, minus-zero, minus-reads, plain-nothing, plain-reads}
-use Rattle.decimal.proofs.read.integer.Statement.{statement}
-use Rattle.decimal.proofs.read.integer.Tie as tie
+use Rattle.decimal.proofs.Limits.{natural-most}
+use Rattle.integers.proofs.Limits.{minus-nothing, minus-zero, minus-reads, plain-nothing, plain-reads}
+use Rattle.integers.proofs.integer.Statement.{statement}
+use Rattle.integers.proofs.integer.Tie as tie
 
 minus-at-requires : tie.Need-minus-at-requires
 minus-at-requires c κs = search needs

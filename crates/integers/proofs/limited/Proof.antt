@@ -1,10 +1,10 @@
--- `decimal::read::limited`: its two tests are the limits.
+-- `integers::limited`: its two tests are the limits.
 use mir.Syntax.{w32}
 use mir.ValLaws.{toZ-ofZ}
-use Rattle.decimal.specs.Answers.{integerFound}
-use Rattle.decimal.proofs.Limits.{too-low, too-high, in-limits}
-use Rattle.decimal.proofs.read.limited.Statement.{statement}
-use Rattle.decimal.proofs.read.limited.Tie as tie
+use Rattle.integers.specs.Answers.{integerFound}
+use Rattle.integers.proofs.Limits.{too-low, too-high, in-limits}
+use Rattle.integers.proofs.limited.Statement.{statement}
+use Rattle.integers.proofs.limited.Tie as tie
 
 returns : tie.Need-returns
 unfolding integerFound

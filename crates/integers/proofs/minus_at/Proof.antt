@@ -1,8 +1,8 @@
--- `decimal::read::minus_at`: past the text stands no minus.
+-- `integers::minus_at`: past the text stands no minus.
 use borrow.Author.Needs.{needs}
 use lib.ListN.{List·getD-eq-default}
-use Rattle.decimal.proofs.read.minus_at.Statement.{statement}
-use Rattle.decimal.proofs.read.minus_at.Tie as tie
+use Rattle.integers.proofs.minus_at.Statement.{statement}
+use Rattle.integers.proofs.minus_at.Tie as tie
 
 returns : tie.Need-returns
 returns c = rw (List·getD-eq-default (c .before .args .text .now) 0 (c .if1 .taken))

@@ -1,14 +1,14 @@
--- `decimal::read::followed`: the byte after the number decides.
+-- `followednumbers::followed`: the byte after the number decides.
 use native.Mathlib.Omega.{arith}
 use borrow.Author.Needs.{needs}
 use mir.Syntax.{w32}
 use mir.ValLaws.{toZ-ofZ}
 use Rattle.decimal.specs.Numbers.{Reads}
-use Rattle.decimal.specs.Answers.{integerFound}
-use Rattle.decimal.proofs.Limits.{read-fits}
-use Rattle.decimal.proofs.Following.{followed-nothing, followed-reads, followed-other}
-use Rattle.decimal.proofs.read.followed.Statement.{statement}
-use Rattle.decimal.proofs.read.followed.Tie as tie
+use Rattle.integers.specs.Answers.{integerFound}
+use Rattle.integers.proofs.Limits.{read-fits}
+use Rattle.followednumbers.proofs.Following.{followed-nothing, followed-reads, followed-other}
+use Rattle.followednumbers.proofs.followed.Statement.{statement}
+use Rattle.followednumbers.proofs.followed.Tie as tie
 
 integer-requires : tie.Need-integer-requires
 integer-requires c κs = search needs

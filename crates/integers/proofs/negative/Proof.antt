@@ -1,8 +1,8 @@
--- `decimal::read::negative`: 0 less the size, through 64 bits.
+-- `integers::negative`: 0 less the size, through 64 bits.
 use borrow.Author.Needs.{needs}
 use Rattle.decimal.proofs.Signs.{made-fits, negative-fits, negative-is}
-use Rattle.decimal.proofs.read.negative.Statement.{statement}
-use Rattle.decimal.proofs.read.negative.Tie as tie
+use Rattle.integers.proofs.negative.Statement.{statement}
+use Rattle.integers.proofs.negative.Tie as tie
 
 cast-result : tie.Need-cast-result
 cast-result c = search needs

@@ -1,0 +1,2 @@
+-- Numbers and the bytes that must follow them.
+pub mod Following

@@ -1,0 +1,2 @@
+-- Numbers of 32 bits in their limits.
+pub mod Limits
