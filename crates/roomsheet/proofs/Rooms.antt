@@ -1,13 +1,15 @@
 -- A text that was read: what stands in the buffers is its room as the field call is given it, and what is put on the page is its sheet.
 use mathlib.Core.Path.{_≡_, refl, ap, _∙_}
 use mathlib.Core.List.{List, [], _∷_}
-use Prim.Native.Nat.{ℕ, zero, suc, _*_, _-_, _≤_}
+use Prim.Native.Nat.{ℕ, zero, suc, _+_, _*_, _-_, _≤_, _<_}
 use native.Mathlib.Nat.{mul-le-mul-right}
 use native.Mathlib.Omega.{arith}
 use lib.Dec.{leb}
 use lib.IntN.{ℤ, pos}
 use lib.ListN.{length, take, drop}
 use lib.Seq.{slice}
+use mir.Syntax.{w32, w64}
+use mir.Val.{Fits}
 use borrow.Author.Tests.{leb-true}
 use Rattle.walkgraph.specs.Painting.{rectangle}
 use Rattle.cells.proofs.Bools.{both}
@@ -35,6 +37,48 @@ part-is (suc from) (suc to) (z ∷ l) = let e : suc to - suc from ≡ to - from 
 -- rows and columns in the limits have 3,600 cells
 pub read-area : {width height m n : ℕ} {cells page : List ℕ} {numbers : List ℤ} → ReadFits width height m n cells numbers page → width * height ≤ 3600
 read-area {width} {height} f = omega (arith, mul-le-mul-right height (f .columns), f .rows)
+
+-- ---- where blockers, resources and the target box stand among the numbers
+module _ {width height m n : ℕ} {cells page : List ℕ} {numbers : List ℤ} (f : ReadFits width height m n cells numbers page) where
+  pub rectangles-few : Fits w64 (m + n)
+  rectangles-few = record { fits = omega (arith, f .painted, f .few) }
+
+  pub blockers-end : Fits w64 (4 * m)
+  blockers-end = record { fits = omega (arith, f .painted) }
+
+  pub blockers-bytes : Fits w64 (4 * m * 4)
+  blockers-bytes = record { fits = omega (arith, f .painted) }
+
+  pub resources-end : Fits w64 (4 * (m + n))
+  resources-end = record { fits = omega (arith, f .painted, f .few) }
+
+  pub resources-after : 4 * m ≤ 4 * (m + n)
+  resources-after = omega arith
+
+  pub box-bytes : Fits w64 (4 * (m + n) * 4)
+  box-bytes = record { fits = omega (arith, f .painted, f .few) }
+
+  pub box-inside : 4 * (m + n) < length numbers
+  box-inside = omega (arith, f .painted, f .few, f .numbers-room)
+
+  pub resources-inside : 4 * (m + n) ≤ length numbers
+  resources-inside = omega (arith, f .painted, f .few, f .numbers-room)
+
+  pub columns-fit : Fits w32 width
+  columns-fit = record { fits = omega (arith, f .columns) }
+
+  pub rows-fit : Fits w32 height
+  rows-fit = record { fits = omega (arith, f .rows) }
+
+  module _ (k : ℕ) (low : k ≤ 3) where
+    pub corner-place : Fits w64 (4 * (m + n) + k)
+    corner-place = record { fits = omega (arith, f .painted, f .few) }
+
+    pub corner-bytes : Fits w64 ((4 * (m + n) + k) * 4)
+    corner-bytes = record { fits = omega (arith, f .painted, f .few) }
+
+    pub corner-inside : 4 * (m + n) + k < length numbers
+    corner-inside = omega (arith, f .painted, f .few, f .numbers-room)
 
 module _ {text cells-before cells-after : List ℕ} {numbers-before numbers-after : List ℤ} where
   -- the limits of the room that was read

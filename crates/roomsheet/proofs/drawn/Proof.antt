@@ -1,6 +1,6 @@
 -- `roomsheet::drawn`: the parts of the buffers are in them, and the four numbers of the target box are read as they stand.
 use mathlib.Core.Path.{sym}
-use Prim.Native.Nat.{_+_, _*_}
+use Prim.Native.Nat.{_+_, _*_, _≤_}
 use native.Mathlib.Omega.{arith}
 use lib.IntN.{pos}
 use lib.ListN.{getD}
@@ -9,24 +9,33 @@ use mir.Syntax.{w32}
 use mir.ValLaws.{toZ-ofZ}
 use borrow.Author.Needs.{needs, sfits-of}
 use Rattle.walkgraph.specs.Painting.{rectangle}
-use Rattle.roomsheet.proofs.Rooms.{read-area, part-is}
+use Rattle.roomsheet.proofs.Rooms.{read-area, part-is, columns-fit, rows-fit, rectangles-few, blockers-end, blockers-bytes, resources-end, resources-after, resources-inside, box-bytes, box-inside, corner-place, corner-bytes, corner-inside}
 use Rattle.roomsheet.proofs.drawn.Statement.{statement}
 use Rattle.roomsheet.proofs.drawn.Tie as tie
 
+one : 1 ≤ 3
+one = omega arith
+
+two : 2 ≤ 3
+two = omega arith
+
+three : 3 ≤ 3
+three = omega arith
+
 mul-from : tie.Need-mul-from
-mul-from c = search needs
+mul-from c = blockers-end (c .before .before .pre)
 
 add-to : tie.Need-add-to
-add-to c = search needs
+add-to c = rectangles-few (c .before .before .pre)
 
 mul-to : tie.Need-mul-to
-mul-to c = search needs
+mul-to c = resources-end (c .before .before .pre)
 
 cast-draw : tie.Need-cast-draw
-cast-draw c = search needs
+cast-draw c = columns-fit (c .before .before .before .pre)
 
 cast-draw-2 : tie.Need-cast-draw-2
-cast-draw-2 c = search needs
+cast-draw-2 c = rows-fit (c .before .before .before .pre)
 
 mul-draw : tie.Need-mul-draw
 mul-draw c = record { fits = omega (arith, read-area (c .before .before .before .pre)) }
@@ -42,49 +51,49 @@ slice-aggregate-draw-2 c =
     sym (length-take-le _ (b .args .numbers .now) (omega (arith, b .pre .painted, b .pre .numbers-room)))
 
 mul-draw-2 : tie.Need-mul-draw-2
-mul-draw-2 c = search needs
+mul-draw-2 c = blockers-bytes (c .before .before .before .before .before .pre)
 
 sub-draw : tie.Need-sub-draw
-sub-draw c = search needs
+sub-draw c = resources-after (c .before .before .before .before .before .pre)
 
 part-draw-start : tie.Need-part-draw-start
-part-draw-start c = search needs
+part-draw-start c = resources-after (c .before .before .before .before .before .pre)
 
 part-draw-end : tie.Need-part-draw-end
-part-draw-end c = search needs
+part-draw-end c = resources-inside (c .before .before .before .before .before .pre)
 
 mul-draw-3 : tie.Need-mul-draw-3
-mul-draw-3 c = search needs
+mul-draw-3 c = box-bytes (c .before .before .before .before .before .before .pre)
 
 shared-slice-copy-out-draw : tie.Need-shared-slice-copy-out-draw
-shared-slice-copy-out-draw c = search needs
+shared-slice-copy-out-draw c = box-inside (c .before .before .before .before .before .before .pre)
 
 add-draw : tie.Need-add-draw
-add-draw c = search needs
+add-draw c = corner-place (c .before .before .before .before .before .before .before .pre) 1 one
 
 mul-draw-4 : tie.Need-mul-draw-4
-mul-draw-4 c = search needs
+mul-draw-4 c = corner-bytes (c .before .before .before .before .before .before .before .pre) 1 one
 
 shared-slice-copy-out-draw-2 : tie.Need-shared-slice-copy-out-draw-2
-shared-slice-copy-out-draw-2 c = search needs
+shared-slice-copy-out-draw-2 c = corner-inside (c .before .before .before .before .before .before .before .pre) 1 one
 
 add-draw-2 : tie.Need-add-draw-2
-add-draw-2 c = search needs
+add-draw-2 c = corner-place (c .before .before .before .before .before .before .before .before .pre) 2 two
 
 mul-draw-5 : tie.Need-mul-draw-5
-mul-draw-5 c = search needs
+mul-draw-5 c = corner-bytes (c .before .before .before .before .before .before .before .before .pre) 2 two
 
 shared-slice-copy-out-draw-3 : tie.Need-shared-slice-copy-out-draw-3
-shared-slice-copy-out-draw-3 c = search needs
+shared-slice-copy-out-draw-3 c = corner-inside (c .before .before .before .before .before .before .before .before .pre) 2 two
 
 add-draw-3 : tie.Need-add-draw-3
-add-draw-3 c = search needs
+add-draw-3 c = corner-place (c .before .before .before .before .before .before .before .before .before .pre) 3 three
 
 mul-draw-6 : tie.Need-mul-draw-6
-mul-draw-6 c = search needs
+mul-draw-6 c = corner-bytes (c .before .before .before .before .before .before .before .before .before .pre) 3 three
 
 shared-slice-copy-out-draw-4 : tie.Need-shared-slice-copy-out-draw-4
-shared-slice-copy-out-draw-4 c = search needs
+shared-slice-copy-out-draw-4 c = corner-inside (c .before .before .before .before .before .before .before .before .before .pre) 3 three
 
 draw-requires : tie.Need-draw-requires
 draw-requires c κs =
