@@ -5,7 +5,6 @@ use Prim.Native.Nat.{ℕ}
 use lib.IntN.{ℤ}
 use Rattle.walkgraph.specs.Buffers.{Lent}
 use Rattle.walkgraph.specs.Painting.{Rectangle}
-use Rattle.walkgraph.specs.Reading.{WindowRecord}
 use Rattle.walkgraph.specs.Refusals.{FieldInput}
 use Rattle.walkgraph.specs.Promise.{FieldAnswer, FieldPromise}
 use Rattle.walkgraph.specs.AccessPromise.{AccessAnswer, AccessPromise}
@@ -38,7 +37,3 @@ pub record FieldsExported (i : JoinInput) (before after : JoinLent) (r : CountAn
   pub answer : JoinAnswer
   pub promise : FieldsPromise i before after answer
   pub numbers : r ≡ joinedNumbers answer
-
--- "Window left, top, width, height", and the lanes of a cell, as numbers that the caller may have made up
-abbrev pub recordFrom : (left top width height lanes : ℕ) → WindowRecord
-recordFrom left top width height lanes = record { left = left; top = top; width = width; height = height; lanes = lanes }

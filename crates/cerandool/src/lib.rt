@@ -7,10 +7,9 @@ use fields;
 use numbers;
 use numbers::CountAnswer;
 use numbers::FieldAnswer;
-use reading;
 use reading::Part;
+use recordreading;
 use sheets;
-use window::record::Window;
 ghost use mathlib.Core.Path.{_≡_};
 ghost use lib.ListN.{length};
 ghost use Rattle.walkgraph.specs.Reading.{readPart};
@@ -19,10 +18,11 @@ ghost use Rattle.rings.specs.Rings.{corners};
 ghost use Rattle.plan.specs.Plans.{inputOf};
 ghost use Rattle.make.specs.Makes.{lent};
 ghost use Rattle.reading.specs.Parts.{asPart};
+ghost use Rattle.recordreading.specs.Records.{recordFrom};
 ghost use Rattle.seeds.specs.Sown as sown;
 ghost use Rattle.fields.specs.Answers as fields;
 ghost use Rattle.accesslists.specs.Listing as lists;
-ghost use Rattle.cerandool.specs.Exports.{FieldExported, recordFrom, AccessExported, AccessListsExported, FieldsExported};
+ghost use Rattle.cerandool.specs.Exports.{FieldExported, AccessExported, AccessListsExported, FieldsExported};
 ghost use Rattle.sheets.specs.Promise.{SheetPromise};
 
 // The field of resources around a target box, on a map of walk cells painted with blockers.
@@ -86,14 +86,7 @@ pub extern "C" fn cerandool_at(
 ) -> Part
     ensures { λ r. ⌜ asPart r ≡ readPart (recordFrom left top width height lanes) (length (now («lane_values» .entry))) x y ⌝ }
 {
-    let window = Window {
-        left: left as usize,
-        top: top as usize,
-        width: width as usize,
-        height: height as usize,
-        lanes: lanes as usize,
-    };
-    reading::cell_part(window, lane_values.len(), x as usize, y as usize)
+    recordreading::part_by_record(left, top, width, height, lanes, lane_values.len(), x, y)
 }
 
 // Access of a rectangle: the indices of its access cells by row, then column, and how many there are.

@@ -1,0 +1,2 @@
+-- A window record from the numbers of a caller.
+pub mod Records
