@@ -19,9 +19,10 @@ use Rattle.walkgraph.specs.FieldsPromise.{JoinInput, Access}
 use Rattle.walkgraph.proofs.Tests.{and-left, and-right, and-pair}
 use Rattle.walkgraph.proofs.Places.{flat-row, flat-column}
 use Rattle.walkgraph.proofs.AccessList.{access-listed, listed-access}
-use Rattle.judge.proofs.Accepted.{AccessLists, fours}
-use Rattle.judge.proofs.Accepted as found
+use Rattle.judge.proofs.Accepted.{fours}
 use Rattle.judge.proofs.Judging.{passes}
+use Rattle.accessrefusal.proofs.Accepted.{AccessLists}
+use Rattle.accessrefusal.proofs.Accepted as found
 use Rattle.accesslists.specs.AllCells.{cellsOf, allCells, endsOf}
 use Rattle.accesslists.specs.AccessListsPromise.{ListsLent, listedIn, AccessListsPromise, lists}
 use Rattle.accesslists.specs.Listing.{AllFit}

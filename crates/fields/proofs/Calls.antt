@@ -13,8 +13,9 @@ use Rattle.walkgraph.specs.Refusals.{badGrid, badAccess, shortJoin, joinVerdict
 use Rattle.walkgraph.specs.FieldsPromise.{JoinInput, JoinLent, lengthsOf, fieldsVerdict, joined, FieldsMade, FieldsPromise, joins}
 use Rattle.cells.proofs.Bools.{both}
 use Rattle.judge.proofs.Grids.{entry-least}
-use Rattle.judge.proofs.Accepted.{Grid, grid, AccessLists, lists}
+use Rattle.judge.proofs.Accepted.{Grid, grid}
 use Rattle.judge.proofs.Judging.{accepted-parts}
+use Rattle.accessrefusal.proofs.Accepted.{AccessLists, lists}
 use Rattle.seeds.specs.Sown.{Sowable}
 use Rattle.seeds.specs.Sowing.{MaySeed}
 use Rattle.classes.specs.Zeros.{Zero}

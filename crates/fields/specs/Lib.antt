@@ -1,3 +1,2 @@
--- The lengths of what the fields call is lent, and its answer.
+-- The fields call's buffers and answer.
 pub mod Answers
-pub mod Lengths

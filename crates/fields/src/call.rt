@@ -1,7 +1,7 @@
 // The public call: fields of resources, judged 1, 3, 8, 7.
-use crate::order;
-use crate::order::Lent;
 use classes;
+use fieldsrefusals;
+use fieldsrefusals::Lent;
 use judge::verdict::Verdict;
 ghost use mathlib.Core.Path.{_≡_};
 ghost use Rattle.walkgraph.specs.Refusals.{accepted};
@@ -73,7 +73,7 @@ pub fn fields(
         ranks: ranks.len(),
         answers: answers.len(),
     };
-    let verdict = order::judged(width, height, cells, indices, ends, lent);
+    let verdict = fieldsrefusals::judged(width, height, cells, indices, ends, lent);
     if let Verdict::Refused { number, place } = verdict {
         return Answer::Refused { number, place };
     }

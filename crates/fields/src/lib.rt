@@ -1,3 +1,2 @@
 // The fields call: which resources are one field.
 pub mod call;
-pub mod order;

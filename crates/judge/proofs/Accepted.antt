@@ -6,18 +6,16 @@ use mathlib.Core.Logic.{_⊎_, inl, inr}
 use Prim.Native.Nat.{ℕ, _*_, _/_, _%_, _≤_, _<_}
 use native.Mathlib.Decide.{ℕ-discrete}
 use native.Mathlib.Omega.{arith}
-use lib.ListN.{getD, length}
+use lib.ListN.{length}
 use lib.IntN.{ℤ, pos, negsuc}
 use lib.Dec.{leb, ltb, eqb}
 use borrow.Author.Tests.{not-false, leb-true, ltb-true, eqb-true, le-leb, ne-eqb}
 use Rattle.walkgraph.specs.Ring.{pixel}
-use Rattle.walkgraph.specs.Refusals.{all, badGrid, badLanes, badFours, badSpan, neverFall, lastEnd, badAccess}
-use Rattle.walkgraph.specs.FieldsPromise.{startOf}
+use Rattle.walkgraph.specs.Refusals.{badGrid, badLanes, badFours, badSpan}
 use Rattle.walkgraph.proofs.Tests.{by-cases}
 use Rattle.cells.proofs.Bools.{clash, both}
 use Rattle.judge.specs.Grids.{greatest, inLimits}
 use Rattle.judge.proofs.Grids.{good-grid}
-use Rattle.judge.proofs.Ends.{good-lists, ends-rise, end-most, entry-all}
 
 -- ---- a size
 pub record Size (size : ℕ) : Type 0 where
@@ -77,22 +75,3 @@ span size (pos a) (pos b) e =
     record { low-is = refl; high-is = refl; across = leb-true a b (both (leb 0 a) (leb a b) (t .0) .1); wide = ltb-true b size (t .1) }
 span size (pos a) (negsuc b) e = absurd (clash (rw (le-leb 0 a (omega arith)) at e))
 span size (negsuc a) high e = absurd (clash e)
-
--- ---- lists of access cells: those of a resource stand between the end before its own and its own, and each is a cell
-pub record AccessLists (cells : ℕ) (indices ends : List ℕ) : Type 0 where
-  pub rise : (r : ℕ) → r < length ends → startOf ends r ≤ getD ends r 0
-  pub high : (r : ℕ) → r < length ends → getD ends r 0 ≤ length indices
-  pub cell : (k : ℕ) → k < length indices → getD indices k 0 < cells
-
-pub lists : (cells : ℕ) (indices ends : List ℕ) → badAccess cells indices ends ≡ false → AccessLists cells indices ends
-lists cells indices ends e =
-    let falls = neverFall 0 ends in
-    let long = eqb (lastEnd 0 ends) (length indices) in
-    let small = all (λ i. ltb i cells) indices in
-    let t = both (falls && long) small (sym (good-lists cells indices ends) ∙ ap not e) in
-    let u = both falls long (t .0) in
-    record {
-      rise = λ r h. ends-rise ends (u .0) r h;
-      high = λ r h. omega (arith, end-most 0 ends (u .0) r h, eqb-true (lastEnd 0 ends) (length indices) (u .1));
-      cell = λ k h. ltb-true (getD indices k 0) cells (entry-all (λ i. ltb i cells) indices k h (t .1));
-    }

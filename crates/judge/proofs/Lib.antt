@@ -1,6 +1,5 @@
 -- The laws that the proofs of this crate cite, and those by which a call uses its verdict.
 pub mod Grids
-pub mod Ends
 pub mod Spans
 pub mod Accepted
 pub mod Judging

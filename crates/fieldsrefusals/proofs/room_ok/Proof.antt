@@ -1,10 +1,10 @@
--- `fields::order::room_ok`: each length is tested in its turn.
+-- `fieldsrefusals::room_ok`: each length is tested in its turn.
 use native.Mathlib.Omega.{arith}
 use borrow.Author.Tests.{le-leb, lt-leb}
 use Rattle.walkgraph.specs.Refusals.{shortJoin}
 use Rattle.cells.proofs.Bools.{not-not}
-use Rattle.fields.proofs.order.room_ok.Statement.{statement}
-use Rattle.fields.proofs.order.room_ok.Tie as tie
+use Rattle.fieldsrefusals.proofs.room_ok.Statement.{statement}
+use Rattle.fieldsrefusals.proofs.room_ok.Tie as tie
 
 returns : tie.Need-returns
 unfolding shortJoin

@@ -1,13 +1,13 @@
--- `judge::lists::ends_ok`: `last` and the ends that are left fall, and end, as all of them do.
+-- `accessrefusal::ends_ok`: `last` and the ends that are left fall, and end, as all of them do.
 use mathlib.Core.Path.{_≡_, refl, sym, _∙_}
 use mathlib.Core.Bool.{true}
 use Prim.Native.Nat.{_-_, _≤_, _<_}
 use native.Mathlib.Omega.{arith}
 use lib.ListN.{length, drop}
 use Rattle.walkgraph.specs.Refusals.{neverFall, lastEnd}
-use Rattle.judge.proofs.Ends.{end-passed, last-passed, end-falls, ends-passed, last-end}
-use Rattle.judge.proofs.lists.ends_ok.Statement.{statement}
-use Rattle.judge.proofs.lists.ends_ok.Tie as tie
+use Rattle.accessrefusal.proofs.Ends.{end-passed, last-passed, end-falls, ends-passed, last-end}
+use Rattle.accessrefusal.proofs.ends_ok.Statement.{statement}
+use Rattle.accessrefusal.proofs.ends_ok.Tie as tie
 
 abbrev Inv-loop : tie.InvT-loop
 Inv-loop listed ends last₀ k₀ k-end last k =

@@ -1,4 +1,4 @@
--- `judge::lists::below`: the indices that are left are cells exactly where all of them are.
+-- `accessrefusal::below`: the indices that are left are cells exactly where all of them are.
 use mathlib.Core.Path.{_≡_, refl, sym, _∙_}
 use Prim.Native.Nat.{_-_, _≤_}
 use native.Mathlib.Omega.{arith}
@@ -6,9 +6,9 @@ use lib.ListN.{length, getD, drop}
 use lib.Dec.{ltb}
 use borrow.Author.Tests.{lt-ltb, le-ltb}
 use Rattle.walkgraph.specs.Refusals.{all}
-use Rattle.judge.proofs.Ends.{entry-passes, entry-fails, entries-pass}
-use Rattle.judge.proofs.lists.below.Statement.{statement}
-use Rattle.judge.proofs.lists.below.Tie as tie
+use Rattle.accessrefusal.proofs.Ends.{entry-passes, entry-fails, entries-pass}
+use Rattle.accessrefusal.proofs.below.Statement.{statement}
+use Rattle.accessrefusal.proofs.below.Tie as tie
 
 abbrev Inv-loop : tie.InvT-loop
 Inv-loop cells indices k₀ k-end k = (k ≤ length indices) × (all (λ i. ltb i cells) (drop k indices) ≡ all (λ i. ltb i cells) indices)

@@ -1,12 +1,12 @@
 // The fields call's refusals, 1, 3, 8, 7: from lengths and shared slices alone.
+use accessrefusal;
 use judge::grid;
-use judge::lists;
 use judge::verdict::Verdict;
 ghost use mathlib.Core.Path.{_≡_};
 ghost use mathlib.Core.Bool.{not};
 ghost use Rattle.walkgraph.specs.Refusals.{shortJoin, joinVerdict};
 ghost use Rattle.judge.specs.Verdicts.{verdictOf};
-ghost use Rattle.fields.specs.Lengths.{lengthsOf};
+ghost use Rattle.fieldsrefusals.specs.Lengths.{lengthsOf};
 
 // The lengths of the lent buffers.
 pub struct Lent {
@@ -59,7 +59,7 @@ pub fn judged(
             place: 0,
         };
     }
-    if !lists::lists_ok(cells.len(), indices, ends) {
+    if !accessrefusal::lists_ok(cells.len(), indices, ends) {
         return Verdict::Refused {
             number: 8,
             place: 0,

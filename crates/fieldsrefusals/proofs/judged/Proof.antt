@@ -1,4 +1,4 @@
--- `fields::order::judged`: its tests are those of the table, in the call's order.
+-- `fieldsrefusals::judged`: its tests are those of the table, in the call's order.
 use mathlib.Core.Path.{_≡_, refl, ap, _∙_}
 use mathlib.Core.Bool.{false, not}
 use Prim.Native.Nat.{ℕ, _*_}
@@ -9,9 +9,9 @@ use Rattle.walkgraph.specs.Refusals.{badGrid, badAccess, shortJoin, joinVerdict
 use Rattle.judge.specs.Verdicts.{verdictOf}
 use Rattle.judge.proofs.Judging.{refuses, passes, found-bad, found-good}
 use Rattle.judge.proofs.Accepted.{grid}
-use Rattle.fields.specs.Lengths.{lengthsOf}
-use Rattle.fields.proofs.order.judged.Statement.{statement}
-use Rattle.fields.proofs.order.judged.Tie as tie
+use Rattle.fieldsrefusals.specs.Lengths.{lengthsOf}
+use Rattle.fieldsrefusals.proofs.judged.Statement.{statement}
+use Rattle.fieldsrefusals.proofs.judged.Tie as tie
 
 grid-ok-requires : tie.Need-grid-ok-requires
 grid-ok-requires c κs = search needs

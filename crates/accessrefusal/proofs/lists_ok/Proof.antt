@@ -1,10 +1,10 @@
--- `judge::lists::lists_ok`: its two tests are those of the lists.
+-- `accessrefusal::lists_ok`: its two tests are those of the lists.
 use mathlib.Core.Path.{sym, _∙_}
 use borrow.Author.Needs.{needs}
 use borrow.Author.Tests.{not-true, not-false}
-use Rattle.judge.proofs.Ends.{good-lists}
-use Rattle.judge.proofs.lists.lists_ok.Statement.{statement}
-use Rattle.judge.proofs.lists.lists_ok.Tie as tie
+use Rattle.accessrefusal.proofs.Ends.{good-lists}
+use Rattle.accessrefusal.proofs.lists_ok.Statement.{statement}
+use Rattle.accessrefusal.proofs.lists_ok.Tie as tie
 
 ends-ok-requires : tie.Need-ends-ok-requires
 ends-ok-requires c κs = search needs

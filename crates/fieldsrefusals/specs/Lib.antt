@@ -1,0 +1,2 @@
+-- The lengths of what the fields call is lent.
+pub mod Lengths
