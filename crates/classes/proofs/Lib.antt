@@ -1,3 +1,2 @@
--- The classes that the search leaves are the fields; buffers that end as 0.
-pub mod Clearing
+-- The classes that the search leaves are the fields.
 pub mod Searched

@@ -22,7 +22,7 @@ use Rattle.numbering.proofs.Giving.{fields-numbered}
 use Rattle.seeds.specs.Sown.{Sown}
 use Rattle.roots.specs.Roots.{AtRoots}
 use Rattle.roots.proofs.Rooting.{root-same, same-root}
-use Rattle.classes.specs.Zeros.{Cleared}
+use Rattle.zeros.specs.Zeros.{Cleared}
 use Rattle.classes.specs.Classes.{Classes, FieldsFound}
 
 -- what has an access cell is a resource

@@ -7,7 +7,7 @@ use Rattle.walkgraph.specs.Links.{Joined, Numbered}
 use Rattle.walkgraph.specs.FieldsPromise.{JoinInput, LinkedBy}
 use Rattle.disjoint.specs.Forest.{of}
 use Rattle.numbering.specs.Fields.{Rooted}
-use Rattle.classes.specs.Zeros.{Cleared}
+use Rattle.zeros.specs.Zeros.{Cleared}
 
 -- "Fields are the classes under chains of links": each resource's parent is a root, the same for two exactly where a chain of links joins them
 pub record Classes (i : JoinInput) (parents : List ℕ) : Type 0 where

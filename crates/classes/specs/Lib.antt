@@ -1,3 +1,2 @@
--- What the contracts of this crate speak of: parents whose classes are the fields, and buffers that end as 0.
+-- Parents whose classes are the fields, and the fields found.
 pub mod Classes
-pub mod Zeros

@@ -1,10 +1,9 @@
 // The fields of the resources of an accepted call, in buffers of exactly the used lengths.
-pub mod clear;
-
 use join::search;
 use numbering::number;
 use roots;
 use seeds::seed;
+use zeros;
 ghost use mathlib.Core.Path.{_≡_};
 ghost use lib.ListN.{length};
 ghost use Rattle.seeds.specs.Sown.{inputOf};
@@ -79,6 +78,6 @@ pub fn numbers(
         ranks,
     );
     let count = number::number(parents, answers);
-    clear::clear(states, queue, parents, ranks);
+    zeros::clear(states, queue, parents, ranks);
     count
 }

@@ -18,7 +18,7 @@ use Rattle.judge.proofs.Judging.{accepted-parts}
 use Rattle.accessrefusal.proofs.Accepted.{AccessLists, lists}
 use Rattle.seeds.specs.Sown.{Sowable}
 use Rattle.seeds.specs.Sowing.{MaySeed}
-use Rattle.classes.specs.Zeros.{Zero}
+use Rattle.zeros.specs.Zeros.{Zero}
 use Rattle.classes.specs.Classes.{FieldsFound}
 use Rattle.fields.specs.Answers.{lent}
 use Rattle.fields.proofs.Parts.{zero-part, answers-part}

@@ -8,7 +8,7 @@ use lib.Seq.{getD-drop, getD-append-add}
 use Rattle.walkgraph.specs.Links.{Numbered}
 use Rattle.walkgraph.specs.Buffers.{UsedPart}
 use Rattle.walkgraph.specs.FieldsPromise.{JoinInput, LinkedBy, AnswersAre}
-use Rattle.classes.specs.Zeros.{Zero}
+use Rattle.zeros.specs.Zeros.{Zero}
 
 -- the buffer is as long as it was
 module _ (n : ℕ) (before part : List ℕ) (fits : n ≤ length before) (long : length (part ++ drop n before) ≡ length before) where

@@ -1,5 +1,5 @@
 // Buffers that end as 0.
-ghost use Rattle.classes.specs.Zeros.{Zero, Cleared};
+ghost use Rattle.zeros.specs.Zeros.{Zero, Cleared};
 
 // Makes every entry 0.
 pub fn clear_u16(entries: &mut [u16])

@@ -1,10 +1,10 @@
--- `classes::clear::clear_u16`: the entries that the loop passed are 0.
+-- `zeros::clear_u16`: the entries that the loop passed are 0.
 use Prim.Native.Nat.{_-_}
 use native.Mathlib.Omega.{arith}
 use lib.ListN.{length}
-use Rattle.classes.proofs.Clearing.{Zeros, zeros-none, zeros-more, zeros-all}
-use Rattle.classes.proofs.clear.clear_u16.Statement.{statement}
-use Rattle.classes.proofs.clear.clear_u16.Tie as tie
+use Rattle.zeros.proofs.Clearing.{Zeros, zeros-none, zeros-more, zeros-all}
+use Rattle.zeros.proofs.clear_u16.Statement.{statement}
+use Rattle.zeros.proofs.clear_u16.Tie as tie
 
 abbrev Inv-loop : tie.InvT-loop
 Inv-loop entries₀ j₀ j-end entries j = Zeros entries₀ entries j

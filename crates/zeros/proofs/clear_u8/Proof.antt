@@ -1,10 +1,10 @@
--- `classes::clear::clear_u32`: the entries that the loop passed are 0.
+-- `zeros::clear_u8`: the entries that the loop passed are 0.
 use Prim.Native.Nat.{_-_}
 use native.Mathlib.Omega.{arith}
 use lib.ListN.{length}
-use Rattle.classes.proofs.Clearing.{Zeros, zeros-none, zeros-more, zeros-all}
-use Rattle.classes.proofs.clear.clear_u32.Statement.{statement}
-use Rattle.classes.proofs.clear.clear_u32.Tie as tie
+use Rattle.zeros.proofs.Clearing.{Zeros, zeros-none, zeros-more, zeros-all}
+use Rattle.zeros.proofs.clear_u8.Statement.{statement}
+use Rattle.zeros.proofs.clear_u8.Tie as tie
 
 abbrev Inv-loop : tie.InvT-loop
 Inv-loop entries₀ j₀ j-end entries j = Zeros entries₀ entries j
@@ -14,9 +14,6 @@ abbrev μ-loop : tie.MeasureT-loop
 
 loop-holds : tie.Need-loop-holds Inv-loop μ-loop
 loop-holds c = zeros-none _
-
-mul-entries : tie.Need-mul-entries Inv-loop μ-loop
-mul-entries c = omega arith
 
 slice-write-entries : tie.Need-slice-write-entries Inv-loop μ-loop
 slice-write-entries c = omega arith
@@ -36,14 +33,13 @@ same-length c = c .before .loop .inv .size
 returns : tie.Need-returns Inv-loop μ-loop
 returns c = zeros-all (omega arith) (c .before .loop .inv)
 
-pub clear-u32-spec : {M : Type 1} → statement M
-clear-u32-spec =
+pub clear-u8-spec : {M : Type 1} → statement M
+clear-u8-spec =
     tie.close
     (tie.spec
     Inv-loop
     μ-loop
     loop-holds
-    mul-entries
     slice-write-entries
     add-j
     loop-less

@@ -7,7 +7,7 @@ use native.Mathlib.Omega.{arith}
 use lib.ListN.{getD, length, set, length-set, List·getD-eq-default}
 use lib.Seq.{getD-set-same, getD-set-other}
 use Rattle.walkgraph.proofs.Tests.{by-cases}
-use Rattle.classes.specs.Zeros.{Zero}
+use Rattle.zeros.specs.Zeros.{Zero}
 
 -- the first m entries are 0
 pub record Zeros (before after : List ℕ) (m : ℕ) : Type 0 where

@@ -1,0 +1,2 @@
+-- Buffers that end as 0.
+pub mod Zeros
