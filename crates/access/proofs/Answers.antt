@@ -20,7 +20,8 @@ use Rattle.rings.proofs.Sources.{ring-in-map}
 use Rattle.judge.proofs.Accepted.{grid}
 use Rattle.judge.proofs.Judging.{refuses, passes}
 use Rattle.access.specs.declared.call.Answer.{Answer}
-use Rattle.ringlists.specs.Rows.{OnMap, ringPlaces}
+use Rattle.ringruns.specs.Runs.{OnMap}
+use Rattle.ringlists.specs.Rows.{ringPlaces}
 use Rattle.access.specs.Answers.{answerOf, RingListed, short, fits}
 use Rattle.ringlists.proofs.AccessRuns.{ring-accessed}
 

@@ -8,7 +8,8 @@ ghost use lib.ListN.{length};
 ghost use Rattle.walkgraph.specs.AccessPromise.{AccessPromise};
 ghost use Rattle.cells.specs.Boxes.{boxOf};
 ghost use Rattle.rings.specs.Rings.{corners};
-ghost use Rattle.ringlists.specs.Rows.{OnMap, ringPlaces};
+ghost use Rattle.ringruns.specs.Runs.{OnMap};
+ghost use Rattle.ringlists.specs.Rows.{ringPlaces};
 ghost use Rattle.access.specs.Answers.{answerOf, RingListed};
 
 // A call is refused with the table's number and place, or lists so many access cells.

@@ -5,9 +5,10 @@ use Prim.Native.Nat.{ℕ, _+_, _≤_, _<_}
 use lib.ListN.{length}
 use lib.Seq.{sets}
 use Rattle.walkgraph.specs.Map.{Box}
-use Rattle.ringlists.specs.declared.row.Runs.{Runs}
+use Rattle.ringruns.specs.declared.Runs.{Runs}
+use Rattle.ringruns.specs.Runs.{OnMap, InCells}
 use Rattle.ringlists.specs.Places.{openPlaces}
-use Rattle.ringlists.specs.Rows.{OnMap, InCells, rowPlaces, ringPlaces}
+use Rattle.ringlists.specs.Rows.{rowPlaces, ringPlaces}
 
 -- places stand behind the `used` entries of a buffer, and the others stay; `end` entries are used then
 pub record Listed (places before : List ℕ) (used : ℕ) (after : List ℕ) (end : ℕ) : Type 0 where

@@ -1,10 +1,12 @@
 // The rows of a ring, from its first to its last.
 use crate::row;
 use cells::boxes::CellBox;
+use ringruns;
 ghost use mathlib.Core.Path.{_≡_};
 ghost use lib.ListN.{length};
 ghost use Rattle.cells.specs.Boxes.{boxOf};
-ghost use Rattle.ringlists.specs.Rows.{OnMap, ringPlaces};
+ghost use Rattle.ringruns.specs.Runs.{OnMap};
+ghost use Rattle.ringlists.specs.Rows.{ringPlaces};
 ghost use Rattle.ringlists.specs.Lists.{RingFits, Listed};
 
 // How many cells of a ring are walkable.
@@ -14,7 +16,7 @@ pub fn count_rows(cells: &[u8], ring: CellBox, body: CellBox, width: usize) -> u
 {
     let mut total: usize = 0;
     for n in 0..ring.bottom + 1 - ring.top {
-        total += row::count_row(cells, row::row_runs(ring, body, width, ring.top + n));
+        total += row::count_row(cells, ringruns::row_runs(ring, body, width, ring.top + n));
     }
     total
 }
@@ -26,7 +28,7 @@ pub fn list_rows(cells: &[u8], ring: CellBox, body: CellBox, width: usize, out: 
 {
     let mut used: usize = 0;
     for n in 0..ring.bottom + 1 - ring.top {
-        let runs = row::row_runs(ring, body, width, ring.top + n);
+        let runs = ringruns::row_runs(ring, body, width, ring.top + n);
         used = row::list_row(cells, runs, out, used);
     }
     used

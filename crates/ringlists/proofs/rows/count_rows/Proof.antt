@@ -4,8 +4,9 @@ use Prim.Native.Nat.{_+_, _-_, _≤_}
 use native.Mathlib.Omega.{arith}
 use lib.ListN.{length}
 use Rattle.cells.specs.Boxes.{boxOf}
+use Rattle.ringruns.proofs.RowRuns.{runs-in}
 use Rattle.ringlists.specs.Rows.{rowPlaces}
-use Rattle.ringlists.proofs.RingRows.{runs-in, firstRows, rows-none, rows-counted, rows-most, rows-all}
+use Rattle.ringlists.proofs.RingRows.{firstRows, rows-none, rows-counted, rows-most, rows-all}
 use Rattle.ringlists.proofs.rows.count_rows.Statement.{statement}
 use Rattle.ringlists.proofs.rows.count_rows.Tie as tie
 

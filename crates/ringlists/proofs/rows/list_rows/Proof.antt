@@ -2,9 +2,10 @@
 use Prim.Native.Nat.{_+_, _-_, _≤_}
 use native.Mathlib.Omega.{arith}
 use Rattle.cells.specs.Boxes.{boxOf}
+use Rattle.ringruns.proofs.RowRuns.{runs-in}
 use Rattle.ringlists.specs.Lists.{Listed}
 use Rattle.ringlists.proofs.Listing.{listed-none, listed-more, listed-length}
-use Rattle.ringlists.proofs.RingRows.{runs-in, firstRows, rows-none, rows-more, rows-room, rows-all}
+use Rattle.ringlists.proofs.RingRows.{firstRows, rows-none, rows-more, rows-room, rows-all}
 use Rattle.ringlists.proofs.rows.list_rows.Statement.{statement}
 use Rattle.ringlists.proofs.rows.list_rows.Tie as tie
 

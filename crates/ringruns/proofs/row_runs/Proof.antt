@@ -1,11 +1,11 @@
--- `ringlists::row::row_runs`: above the body, below it, and beside it.
+-- `ringruns::row_runs`: above the body, below it, and beside it.
 use mathlib.Core.Path.{_∙_}
 use borrow.Author.Needs.{needs}
 use native.Mathlib.Omega.{arith}
 use Rattle.cells.specs.Boxes.{boxOf}
-use Rattle.ringlists.proofs.RingRows.{row-start, same-runs, runs-above, runs-below, runs-beside}
-use Rattle.ringlists.proofs.row.row_runs.Statement.{statement}
-use Rattle.ringlists.proofs.row.row_runs.Tie as tie
+use Rattle.ringruns.proofs.RowRuns.{row-start, same-runs, runs-above, runs-below, runs-beside}
+use Rattle.ringruns.proofs.row_runs.Statement.{statement}
+use Rattle.ringruns.proofs.row_runs.Tie as tie
 
 mul-start : tie.Need-mul-start
 mul-start c = omega (arith, row-start (c .args .y) (c .pre .0) (c .pre .1))
