@@ -21,9 +21,9 @@ use Rattle.judge.proofs.Accepted.{grid}
 use Rattle.judge.proofs.Judging.{refuses, passes}
 use Rattle.access.specs.declared.call.Answer.{Answer}
 use Rattle.ringruns.specs.Runs.{OnMap}
-use Rattle.ringlists.specs.Rows.{ringPlaces}
+use Rattle.ringrows.specs.Rows.{ringPlaces}
 use Rattle.access.specs.Answers.{answerOf, RingListed, short, fits}
-use Rattle.ringlists.proofs.AccessRuns.{ring-accessed}
+use Rattle.ringrows.proofs.AccessRuns.{ring-accessed}
 
 module _ (w h : ℕ) (cells : List ℕ) (r : Rectangle) where
   -- ---- refusals 1 and 4

@@ -1,7 +1,7 @@
 // The public call: access of a rectangle, judged 1, 4, 7.
 use cells::boxes::CellBox;
 use judge::grid;
-use ringlists::rows;
+use ringrows::rows;
 use rings::ring;
 use rings::ring::Ring;
 ghost use lib.ListN.{length};
@@ -9,7 +9,7 @@ ghost use Rattle.walkgraph.specs.AccessPromise.{AccessPromise};
 ghost use Rattle.cells.specs.Boxes.{boxOf};
 ghost use Rattle.rings.specs.Rings.{corners};
 ghost use Rattle.ringruns.specs.Runs.{OnMap};
-ghost use Rattle.ringlists.specs.Rows.{ringPlaces};
+ghost use Rattle.ringrows.specs.Rows.{ringPlaces};
 ghost use Rattle.access.specs.Answers.{answerOf, RingListed};
 
 // A call is refused with the table's number and place, or lists so many access cells.

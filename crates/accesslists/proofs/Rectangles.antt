@@ -18,7 +18,7 @@ use Rattle.rings.specs.Rings.{Accepted}
 use Rattle.rings.proofs.Search.{all-good}
 use Rattle.judge.proofs.Accepted.{grid}
 use Rattle.ringruns.specs.Runs.{OnMap}
-use Rattle.ringlists.specs.Rows.{ringPlaces}
+use Rattle.ringrows.specs.Rows.{ringPlaces}
 use Rattle.access.proofs.Answers.{found-on-map, found-access}
 use Rattle.accesslists.specs.AllCells.{cellsOf}
 use Rattle.accesslists.specs.Listing.{OneOf}

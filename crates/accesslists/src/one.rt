@@ -1,5 +1,5 @@
 // One rectangle of many: how many access cells it has, and their list.
-use ringlists::rows;
+use ringrows::rows;
 use rings::ring;
 use rings::ring::Ring;
 ghost use mathlib.Core.Path.{_≡_};

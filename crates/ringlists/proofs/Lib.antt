@@ -1,5 +1,3 @@
 -- The laws that the proofs of this crate and of those above it cite.
 pub mod Places
 pub mod Listing
-pub mod RingRows
-pub mod AccessRuns

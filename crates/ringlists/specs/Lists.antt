@@ -4,11 +4,7 @@ use mathlib.Core.List.{List}
 use Prim.Native.Nat.{ℕ, _+_, _≤_, _<_}
 use lib.ListN.{length}
 use lib.Seq.{sets}
-use Rattle.walkgraph.specs.Map.{Box}
-use Rattle.ringruns.specs.declared.Runs.{Runs}
-use Rattle.ringruns.specs.Runs.{OnMap, InCells}
 use Rattle.ringlists.specs.Places.{openPlaces}
-use Rattle.ringlists.specs.Rows.{rowPlaces, ringPlaces}
 
 -- places stand behind the `used` entries of a buffer, and the others stay; `end` entries are used then
 pub record Listed (places before : List ℕ) (used : ℕ) (after : List ℕ) (end : ℕ) : Type 0 where
@@ -25,13 +21,3 @@ pub record RunFits (cells : List ℕ) (from count used lent : ℕ) : Type 0 wher
   pub cells-in : from + count ≤ length cells
   pub few : length cells ≤ 1048576
   pub room : used + length (openPlaces cells from count) ≤ lent
-
--- the same for the runs of a row
-pub record RowFits (cells : List ℕ) (runs : Runs) (used lent : ℕ) : Type 0 where
-  pub cells-in : InCells (length cells) runs
-  pub room : used + length (rowPlaces cells runs) ≤ lent
-
--- and for a ring
-pub record RingFits (cells : List ℕ) (width : ℕ) (ring body : Box) (lent : ℕ) : Type 0 where
-  pub map : OnMap width (length cells) ring body
-  pub room : length (ringPlaces cells width ring body) ≤ lent

@@ -1,4 +1,2 @@
-// The walkable cells of a ring, row by row, counted and listed.
-pub mod row;
-pub mod rows;
+// Runs of cells, of which a row of a ring has at most two: the walkable ones counted and listed.
 pub mod run;

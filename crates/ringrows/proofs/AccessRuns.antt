@@ -15,9 +15,9 @@ use Rattle.walkgraph.proofs.Boxes.{box-in, in-box}
 use Rattle.cells.proofs.Bools.{unless}
 use Rattle.ringruns.specs.Runs.{OnGrid, wholeRow, besideBody, rowRuns}
 use Rattle.ringruns.proofs.RowRuns.{runs-above, runs-below, runs-beside}
 use Rattle.ringlists.specs.Places.{inOrder, openPlace, openPlaces}
-use Rattle.ringlists.specs.Rows.{rowPlaces, rowsOf, ringPlaces}
+use Rattle.ringrows.specs.Rows.{rowPlaces, rowsOf, ringPlaces}
 use Rattle.ringlists.proofs.Places.{in-order-same, in-order-none, in-order-split, in-order-first, run-none}
 
 -- ---- the walk graph's lists, cell by cell and row by row
 module _ (width : ℕ) (test : ℕ → ℕ → Bool) where

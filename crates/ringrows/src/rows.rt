@@ -5,9 +5,10 @@ use ringruns;
 ghost use mathlib.Core.Path.{_≡_};
 ghost use lib.ListN.{length};
 ghost use Rattle.cells.specs.Boxes.{boxOf};
+ghost use Rattle.ringlists.specs.Lists.{Listed};
 ghost use Rattle.ringruns.specs.Runs.{OnMap};
-ghost use Rattle.ringlists.specs.Rows.{ringPlaces};
-ghost use Rattle.ringlists.specs.Lists.{RingFits, Listed};
+ghost use Rattle.ringrows.specs.Rows.{ringPlaces};
+ghost use Rattle.ringrows.specs.Room.{RingFits};
 
 // How many cells of a ring are walkable.
 pub fn count_rows(cells: &[u8], ring: CellBox, body: CellBox, width: usize) -> usize

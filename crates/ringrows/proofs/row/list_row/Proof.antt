@@ -1,11 +1,11 @@
--- `ringlists::row::list_row`: the places of both runs, one after the other.
+-- `ringrows::row::list_row`: the places of both runs, one after the other.
 use borrow.Author.Needs.{needs}
 use native.Mathlib.Omega.{arith}
-use Rattle.ringlists.specs.Rows.{rowPlaces}
-use Rattle.ringlists.proofs.RingRows.{row-length}
+use Rattle.ringrows.specs.Rows.{rowPlaces}
+use Rattle.ringrows.proofs.RingRows.{row-length}
 use Rattle.ringlists.proofs.Listing.{listed-more, listed-length}
-use Rattle.ringlists.proofs.row.list_row.Statement.{statement}
-use Rattle.ringlists.proofs.row.list_row.Tie as tie
+use Rattle.ringrows.proofs.row.list_row.Statement.{statement}
+use Rattle.ringrows.proofs.row.list_row.Tie as tie
 
 list-run-requires : tie.Need-list-run-requires
 list-run-requires c κs =

@@ -1,14 +1,14 @@
--- `ringlists::rows::count_rows`: the walkable cells of the rows that the loop passed.
+-- `ringrows::rows::count_rows`: the walkable cells of the rows that the loop passed.
 use mathlib.Core.Path.{_≡_, sym, ap, _∙_}
 use Prim.Native.Nat.{_+_, _-_, _≤_}
 use native.Mathlib.Omega.{arith}
 use lib.ListN.{length}
 use Rattle.cells.specs.Boxes.{boxOf}
 use Rattle.ringruns.proofs.RowRuns.{runs-in}
-use Rattle.ringlists.specs.Rows.{rowPlaces}
-use Rattle.ringlists.proofs.RingRows.{firstRows, rows-none, rows-counted, rows-most, rows-all}
-use Rattle.ringlists.proofs.rows.count_rows.Statement.{statement}
-use Rattle.ringlists.proofs.rows.count_rows.Tie as tie
+use Rattle.ringrows.specs.Rows.{rowPlaces}
+use Rattle.ringrows.proofs.RingRows.{firstRows, rows-none, rows-counted, rows-most, rows-all}
+use Rattle.ringrows.proofs.rows.count_rows.Statement.{statement}
+use Rattle.ringrows.proofs.rows.count_rows.Tie as tie
 
 abbrev Inv-loop : tie.InvT-loop
 Inv-loop cells ring body width total₀ n₀ n-end total n =

@@ -1,13 +1,13 @@
--- `ringlists::rows::list_rows`: the walkable cells of the rows that the loop passed are listed.
+-- `ringrows::rows::list_rows`: the walkable cells of the rows that the loop passed are listed.
 use Prim.Native.Nat.{_+_, _-_, _≤_}
 use native.Mathlib.Omega.{arith}
 use Rattle.cells.specs.Boxes.{boxOf}
 use Rattle.ringruns.proofs.RowRuns.{runs-in}
 use Rattle.ringlists.specs.Lists.{Listed}
 use Rattle.ringlists.proofs.Listing.{listed-none, listed-more, listed-length}
-use Rattle.ringlists.proofs.RingRows.{firstRows, rows-none, rows-more, rows-room, rows-all}
-use Rattle.ringlists.proofs.rows.list_rows.Statement.{statement}
-use Rattle.ringlists.proofs.rows.list_rows.Tie as tie
+use Rattle.ringrows.proofs.RingRows.{firstRows, rows-none, rows-more, rows-room, rows-all}
+use Rattle.ringrows.proofs.rows.list_rows.Statement.{statement}
+use Rattle.ringrows.proofs.rows.list_rows.Tie as tie
 
 abbrev Inv-loop : tie.InvT-loop
 Inv-loop cells ring body width out₀ used₀ n₀ n-end out used n =

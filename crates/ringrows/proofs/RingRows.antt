@@ -8,9 +8,9 @@ use Rattle.walkgraph.specs.Map.{Box}
 use Rattle.ringruns.specs.declared.Runs.{Runs}
 use Rattle.ringruns.specs.Runs.{OnMap, rowRuns, InCells}
 use Rattle.ringruns.proofs.RowRuns.{runs-in}
 use Rattle.ringlists.specs.Places.{inOrder, openPlaces}
-use Rattle.ringlists.specs.Rows.{rowPlaces, rowsOf, ringPlaces}
+use Rattle.ringrows.specs.Rows.{rowPlaces, rowsOf, ringPlaces}
 use Rattle.ringlists.proofs.Places.{run-most, in-order-more, in-order-up, in-order-most}
 
 -- ---- the places of a row's two runs
 module _ (cells : List ℕ) (runs : Runs) where

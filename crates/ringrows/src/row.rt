@@ -1,11 +1,12 @@
 // A row of a ring: at most two runs of cells, beside the body.
-use crate::run;
+use ringlists::run;
 use ringruns::Runs;
 ghost use mathlib.Core.Path.{_≡_};
 ghost use lib.ListN.{length};
+ghost use Rattle.ringlists.specs.Lists.{Listed};
 ghost use Rattle.ringruns.specs.Runs.{InCells};
-ghost use Rattle.ringlists.specs.Rows.{rowPlaces};
-ghost use Rattle.ringlists.specs.Lists.{RowFits, Listed};
+ghost use Rattle.ringrows.specs.Rows.{rowPlaces};
+ghost use Rattle.ringrows.specs.Room.{RowFits};
 
 // How many cells of both runs are walkable.
 pub fn count_row(cells: &[u8], runs: Runs) -> usize

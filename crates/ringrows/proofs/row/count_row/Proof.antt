@@ -1,9 +1,9 @@
--- `ringlists::row::count_row`: the places of both runs, one after the other.
+-- `ringrows::row::count_row`: the places of both runs, one after the other.
 use borrow.Author.Needs.{needs}
 use native.Mathlib.Omega.{arith}
-use Rattle.ringlists.proofs.RingRows.{row-length, row-most}
-use Rattle.ringlists.proofs.row.count_row.Statement.{statement}
-use Rattle.ringlists.proofs.row.count_row.Tie as tie
+use Rattle.ringrows.proofs.RingRows.{row-length, row-most}
+use Rattle.ringrows.proofs.row.count_row.Statement.{statement}
+use Rattle.ringrows.proofs.row.count_row.Tie as tie
 
 count-run-requires : tie.Need-count-run-requires
 count-run-requires c κs = search needs
