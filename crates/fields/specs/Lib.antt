@@ -1,2 +1,2 @@
--- The fields call's buffers and answer.
+-- The fields call's answer.
 pub mod Answers

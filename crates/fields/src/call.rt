@@ -1,52 +1,17 @@
 // The public call: fields of resources, judged 1, 3, 8, 7.
-use classes;
 use fieldsrefusals;
 use fieldsrefusals::Lent;
 use judge::verdict::Verdict;
-ghost use mathlib.Core.Path.{_≡_};
-ghost use Rattle.walkgraph.specs.Refusals.{accepted};
-ghost use Rattle.walkgraph.specs.FieldsPromise.{fieldsVerdict, FieldsMade, FieldsPromise};
+use usedparts;
+ghost use Rattle.walkgraph.specs.FieldsPromise.{FieldsPromise};
 ghost use Rattle.seeds.specs.Sown.{inputOf};
-ghost use Rattle.fields.specs.Answers.{lent, answerOf};
+ghost use Rattle.usedparts.specs.Lent.{lent};
+ghost use Rattle.fields.specs.Answers.{answerOf};
 
 // A call is refused with the table's number and place, or finds so many fields.
 pub enum Answer {
     Refused { number: u32, place: u32 },
     Joined { count: usize },
-}
-
-// The fields of an accepted call, in the used parts of the buffers: how many.
-pub fn joined(
-    width: u32,
-    height: u32,
-    cells: &[u8],
-    indices: &[u32],
-    ends: &[u32],
-    states: &mut [u16],
-    queue: &mut [u32],
-    parents: &mut [u16],
-    ranks: &mut [u8],
-    answers: &mut [u16],
-) -> usize
-    requires { ⌜ fieldsVerdict (inputOf width height (now cells) (now indices) (now ends)) (lent (now states) (now queue) (now parents) (now ranks) (now answers)) ≡ accepted ⌝ }
-    ensures { λ r. ⌜ FieldsMade (inputOf width height (now (cells .entry)) (now (indices .entry)) (now (ends .entry)))
-        (lent (now (states .entry)) (now (queue .entry)) (now (parents .entry)) (now (ranks .entry)) (now (answers .entry)))
-        (lent (now (states .exit)) (now (queue .exit)) (now (parents .exit)) (now (ranks .exit)) (now (answers .exit))) r ⌝ }
-{
-    let size = cells.len();
-    let resources = ends.len();
-    classes::numbers(
-        width,
-        height,
-        cells,
-        indices,
-        ends,
-        &mut states[..size],
-        &mut queue[..size],
-        &mut parents[..resources],
-        &mut ranks[..resources],
-        &mut answers[..resources],
-    )
 }
 
 // Fields of resources: the number of each resource's field, by its smallest member, and how many fields there are; or a refusal, and nothing is written.
@@ -77,7 +42,7 @@ pub fn fields(
     if let Verdict::Refused { number, place } = verdict {
         return Answer::Refused { number, place };
     }
-    let count = joined(
+    let count = usedparts::joined(
         width,
         height,
         cells,

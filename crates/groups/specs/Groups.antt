@@ -11,7 +11,7 @@ use Rattle.walkgraph.specs.FieldsPromise.{JoinInput, JoinLent, FieldsPromise, j
 use Rattle.accesslists.specs.AccessListsPromise.{ListsLent, AccessListsPromise}
 use Rattle.accesslists.specs.Listing as listing
 use Rattle.accesslists.specs.JoinLists.{joinInput}
-use Rattle.fields.specs.Answers as fields
+use Rattle.usedparts.specs.Lent as fields
 
 -- room for the access cells of 8 resources on 60 rows of 60 columns: "u32 indices with n u32 ends"
 abbrev pub zeroLists : ListsLent

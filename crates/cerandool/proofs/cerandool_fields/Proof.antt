@@ -2,7 +2,7 @@
 use denote.Ref.{now}
 use borrow.Author.Needs.{needs}
 use Rattle.seeds.specs.Sown.{inputOf}
-use Rattle.fields.specs.Answers.{lent}
+use Rattle.usedparts.specs.Lent.{lent}
 use Rattle.numbers.proofs.Counts.{joined-in-u32}
 use Rattle.cerandool.proofs.cerandool_fields.Statement.{statement}
 use Rattle.cerandool.proofs.cerandool_fields.Tie as tie

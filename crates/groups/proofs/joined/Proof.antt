@@ -3,7 +3,8 @@ use denote.Ref.{now}
 use borrow.Author.Needs.{needs}
 use Rattle.walkgraph.specs.FieldsPromise.{JoinInput, JoinLent}
 use Rattle.seeds.specs.Sown.{inputOf}
-use Rattle.fields.specs.Answers.{lent, answerOf}
+use Rattle.usedparts.specs.Lent.{lent}
+use Rattle.fields.specs.Answers.{answerOf}
 use Rattle.groups.specs.Groups.{zeroJoin}
 use Rattle.groups.proofs.Calls.{join-made, join-found}
 use Rattle.groups.proofs.joined.Statement.{statement}

@@ -6,7 +6,8 @@ use denote.Ref.{now}
 use Rattle.walkgraph.specs.FieldsPromise.{JoinInput, JoinLent, lengthsOf, fieldsVerdict, refuses}
 use Rattle.judge.specs.Verdicts.{verdictOf}
 use Rattle.seeds.specs.Sown.{inputOf}
-use Rattle.fields.specs.Answers.{lent, answerOf}
+use Rattle.usedparts.specs.Lent.{lent}
+use Rattle.fields.specs.Answers.{answerOf}
 use Rattle.fields.proofs.Calls.{call-joined}
 use Rattle.fields.proofs.call.fields.Statement.{statement}
 use Rattle.fields.proofs.call.fields.Tie as tie

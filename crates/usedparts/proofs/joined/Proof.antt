@@ -1,14 +1,14 @@
--- `fields::call::joined`: the used parts of the buffers are lent on, and come back before the entries past them.
+-- `usedparts::joined`: the used parts of the buffers are lent on, and come back before the entries past them.
 use mathlib.Core.Path.{sym}
 use native.Mathlib.Omega.{arith}
 use lib.Seq.{length-take-le}
 use denote.Ref.{now}
 use Rattle.walkgraph.specs.FieldsPromise.{JoinInput, JoinLent}
 use Rattle.seeds.specs.Sown.{inputOf}
-use Rattle.fields.specs.Answers.{lent}
-use Rattle.fields.proofs.Calls.{Passed, passed, may-seed, made}
-use Rattle.fields.proofs.call.joined.Statement.{statement}
-use Rattle.fields.proofs.call.joined.Tie as tie
+use Rattle.usedparts.specs.Lent.{lent}
+use Rattle.usedparts.proofs.Passed.{Passed, passed, may-seed, made}
+use Rattle.usedparts.proofs.joined.Statement.{statement}
+use Rattle.usedparts.proofs.joined.Tie as tie
 
 -- what the call is given, and what it is lent
 abbrev input : tie.Start → JoinInput

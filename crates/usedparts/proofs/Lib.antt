@@ -1,0 +1,3 @@
+-- The used parts of buffers, and what an accepted call asks of them and leaves in them.
+pub mod Parts
+pub mod Passed

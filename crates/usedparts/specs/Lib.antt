@@ -1,0 +1,2 @@
+-- The fields call's buffers.
+pub mod Lent
