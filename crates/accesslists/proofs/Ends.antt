@@ -23,8 +23,8 @@ use Rattle.walkgraph.proofs.Places.{flat-lt}
 use Rattle.walkgraph.proofs.AccessList.{listed-access}
 use Rattle.ringlists.specs.Places.{inOrder}
 use Rattle.ringlists.proofs.Places.{in-order-split}
-use Rattle.accesslists.specs.AllCells.{cellsOf, allCells, endsOf}
-use Rattle.accesslists.proofs.AllCells.{all-none, all-more, all-length, all-up, end-at}
+use Rattle.manyrectangles.specs.AllCells.{cellsOf, allCells, endsOf}
+use Rattle.manyrectangles.proofs.AllCells.{all-none, all-more, all-length, all-up, end-at}
 
 -- ---- entries and members
 pub entry-member : (l : List ℕ) (j : ℕ) → j < length l → List·Memᴰ (getD l j 0) l

@@ -23,11 +23,12 @@ use Rattle.judge.proofs.Accepted.{fours}
 use Rattle.judge.proofs.Judging.{passes}
 use Rattle.accessrefusal.proofs.Accepted.{AccessLists}
 use Rattle.accessrefusal.proofs.Accepted as found
-use Rattle.accesslists.specs.AllCells.{cellsOf, allCells, endsOf}
-use Rattle.accesslists.specs.AccessListsPromise.{ListsLent, listedIn, AccessListsPromise, lists}
-use Rattle.accesslists.specs.Listing.{AllFit}
+use Rattle.manyrectangles.specs.AllCells.{cellsOf, allCells, endsOf}
+use Rattle.manyrectangles.specs.Lent.{ListsLent, listedIn}
+use Rattle.accesslists.specs.AccessListsPromise.{AccessListsPromise, lists}
+use Rattle.manyrectangles.specs.Listing.{AllFit}
 use Rattle.accesslists.specs.JoinLists.{joinInput}
-use Rattle.accesslists.proofs.AllCells.{ends-length}
+use Rattle.manyrectangles.proofs.AllCells.{ends-length}
 use Rattle.accesslists.proofs.Verdicts.{all-fit}
 use Rattle.accesslists.proofs.Ends.{entry-member, member-entry, walkable-cell, not-refused, starts-at, ends-at, entry-at}
 

@@ -14,11 +14,12 @@ use Rattle.walkgraph.specs.AccessPromise.{refusal, listed}
 use Rattle.walkgraph.proofs.Lists.{first-from}
 use Rattle.cells.proofs.Bools.{neither}
 use Rattle.judge.proofs.Judging.{refuses, passes, accepted-parts}
-use Rattle.accesslists.specs.AllCells.{allCells}
-use Rattle.accesslists.specs.AccessListsPromise.{ListsLent, listsVerdict, AccessListsPromise}
+use Rattle.manyrectangles.specs.AllCells.{allCells}
+use Rattle.manyrectangles.specs.Lent.{ListsLent}
+use Rattle.accesslists.specs.AccessListsPromise.{listsVerdict, AccessListsPromise}
 use Rattle.accesslists.specs.AccessListsPromise as promise
-use Rattle.accesslists.specs.Listing.{Judged, AllFit, AllListed}
-use Rattle.accesslists.proofs.AllCells.{all-area}
+use Rattle.manyrectangles.specs.Listing.{Judged, AllFit, AllListed}
+use Rattle.manyrectangles.proofs.AllCells.{all-area}
 
 -- the search finds no rectangle that is refused
 pub judged-all : (w h : ℕ) (cells : List ℕ) (l : List ℤ) (bad : ℕ) → badGrid w h cells ≡ false → badFours 512 l ≡ false → bad ≡ firstBadResource w h l → length l / 4 ≤ bad →

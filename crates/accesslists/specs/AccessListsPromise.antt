@@ -1,19 +1,15 @@
 -- Document 01, "The promises themselves": what the access cells of many rectangles promise, for every input.
 use mathlib.Core.Path.{_≡_}
 use mathlib.Core.Bool.{_||_}
-use mathlib.Core.List.{List, _++_}
+use mathlib.Core.List.{List}
 use Prim.Native.Nat.{ℕ, _/_}
-use lib.ListN.{length, drop}
+use lib.ListN.{length}
 use lib.IntN.{ℤ}
 use lib.Dec.{ltb}
 use Rattle.walkgraph.specs.Refusals.{Verdict, accepted, refused, judge, badGrid, badFours, firstBadResource}
 use Rattle.walkgraph.specs.AccessPromise.{AccessAnswer, refusal, listed}
-use Rattle.accesslists.specs.AllCells.{allCells, endsOf}
-
--- what the call is lent: "u32 indices with n u32 ends"
-pub record ListsLent : Type 0 where
-  pub indices : List ℕ
-  pub ends : List ℕ
+use Rattle.manyrectangles.specs.AllCells.{allCells}
+use Rattle.manyrectangles.specs.Lent.{ListsLent, listedIn}
 
 -- "Access: 1, 4, 7", each as the field call has it, and 3 COUNT before 4: numbers not in fours or, as for fields, n > 512. 7 SCRATCH, "a lent buffer
 -- is shorter than needed": fewer indices than all access cells together, or fewer ends than rectangles.
@@ -25,13 +21,6 @@ listsVerdict width height cells rectangles indices ends =
     (judge (badFours 512 rectangles) 3 0
     (judge (ltb bad n) 4 bad
     (judge (ltb indices (length (allCells width height cells rectangles n)) || ltb ends n) 7 0 accepted)))
-
--- both buffers after an accepted call: "Entries past the used part stay."
-unfoldable pub listedIn : ℕ → ℕ → List ℕ → List ℤ → ListsLent → ListsLent
-listedIn width height cells rectangles before =
-    let n = length rectangles / 4 in
-    let all = allCells width height cells rectangles n in
-    record { indices = all ++ drop (length all) (before .indices); ends = endsOf width height cells rectangles n ++ drop n (before .ends) }
 
 -- the answer and both lent buffers after the call, where they held `before`
 pub data AccessListsPromise (width height : ℕ) (cells : List ℕ) (rectangles : List ℤ) (before : ListsLent) : ListsLent → AccessAnswer → Type 0 where

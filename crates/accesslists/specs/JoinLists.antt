@@ -4,7 +4,7 @@ use Prim.Native.Nat.{ℕ, _/_}
 use lib.ListN.{length, take}
 use lib.IntN.{ℤ}
 use Rattle.walkgraph.specs.FieldsPromise.{JoinInput}
-use Rattle.accesslists.specs.AccessListsPromise.{ListsLent}
+use Rattle.manyrectangles.specs.Lent.{ListsLent}
 
 -- "u32 indices with n u32 ends": the first `count` indices, as many as the call answers, and the first n ends, as many as there are rectangles
 abbrev pub joinInput : ℕ → ℕ → List ℕ → List ℤ → ListsLent → ℕ → JoinInput

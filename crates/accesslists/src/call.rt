@@ -1,9 +1,9 @@
 // The public call: the access cells of many rectangles, judged 1, 3, 4, 7.
-use crate::all;
 use crate::order;
 use judge::verdict::Verdict;
+use manyrectangles::all;
 ghost use Rattle.accesslists.specs.AccessListsPromise.{AccessListsPromise};
-ghost use Rattle.accesslists.specs.Listing.{lent};
+ghost use Rattle.manyrectangles.specs.Listing.{lent};
 ghost use Rattle.accesslists.specs.Answers.{answerOf};
 
 // A call is refused with the table's number and place, or lists so many access cells.

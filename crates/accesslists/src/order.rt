@@ -1,8 +1,8 @@
 // The call's refusals, 1, 3, 4, 7: from lengths and shared slices alone.
-use crate::all;
 use judge::grid;
 use judge::numbers;
 use judge::verdict::Verdict;
+use manyrectangles::all;
 use rings::ring;
 ghost use mathlib.Core.Path.{_≡_};
 ghost use Rattle.judge.specs.Verdicts.{verdictOf};

@@ -11,7 +11,7 @@ use Rattle.walkgraph.specs.FieldsPromise.{JoinInput, JoinLent}
 use Rattle.walkgraph.proofs.Promises.{promise-one}
 use Rattle.walkgraph.proofs.AccessCall.{access-one}
 use Rattle.walkgraph.proofs.FieldsCall.{fields-one}
-use Rattle.accesslists.specs.AccessListsPromise.{ListsLent}
+use Rattle.manyrectangles.specs.Lent.{ListsLent}
 use Rattle.accesslists.proofs.AccessListsCall.{access-lists-one}
 use Rattle.reading.specs.declared.Part as code
 use Rattle.reading.specs.Parts.{asPart}

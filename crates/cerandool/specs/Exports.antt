@@ -9,7 +9,8 @@ use Rattle.walkgraph.specs.Refusals.{FieldInput}
 use Rattle.walkgraph.specs.Promise.{FieldAnswer, FieldPromise}
 use Rattle.walkgraph.specs.AccessPromise.{AccessAnswer, AccessPromise}
 use Rattle.walkgraph.specs.FieldsPromise.{JoinInput, JoinLent, JoinAnswer, FieldsPromise}
-use Rattle.accesslists.specs.AccessListsPromise.{ListsLent, AccessListsPromise}
+use Rattle.manyrectangles.specs.Lent.{ListsLent}
+use Rattle.accesslists.specs.AccessListsPromise.{AccessListsPromise}
 use Rattle.numbers.specs.declared.FieldAnswer as code
 use Rattle.numbers.specs.declared.CountAnswer.{CountAnswer}
 use Rattle.numbers.specs.Numbers.{numbersOf, listedNumbers, joinedNumbers}

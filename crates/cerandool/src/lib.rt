@@ -21,7 +21,7 @@ ghost use Rattle.reading.specs.Parts.{asPart};
 ghost use Rattle.recordreading.specs.Records.{recordFrom};
 ghost use Rattle.seeds.specs.Sown as sown;
 ghost use Rattle.usedparts.specs.Lent as fields;
-ghost use Rattle.accesslists.specs.Listing as lists;
+ghost use Rattle.manyrectangles.specs.Listing as lists;
 ghost use Rattle.cerandool.specs.Exports.{FieldExported, AccessExported, AccessListsExported, FieldsExported};
 ghost use Rattle.sheets.specs.Promise.{SheetPromise};
 

@@ -15,7 +15,8 @@ use Rattle.walkgraph.specs.FieldsPromise as join
 use Rattle.walkgraph.proofs.Promises.{clash}
 use Rattle.judge.proofs.Accepted.{fours}
 use Rattle.judge.proofs.Judging.{passes}
-use Rattle.accesslists.specs.AccessListsPromise.{ListsLent, listsVerdict, AccessListsPromise}
+use Rattle.manyrectangles.specs.Lent.{ListsLent}
+use Rattle.accesslists.specs.AccessListsPromise.{listsVerdict, AccessListsPromise}
 use Rattle.accesslists.specs.AccessListsPromise as lists
 use Rattle.accesslists.specs.JoinLists.{joinInput}
 use Rattle.accesslists.proofs.Verdicts.{with-room}

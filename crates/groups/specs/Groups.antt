@@ -8,8 +8,9 @@ use lib.ListN.{length, replicate}
 use Rattle.walkgraph.specs.Refusals.{badGrid, badFours, firstBadResource}
 use Rattle.walkgraph.specs.AccessPromise.{listed}
 use Rattle.walkgraph.specs.FieldsPromise.{JoinInput, JoinLent, FieldsPromise, joined}
-use Rattle.accesslists.specs.AccessListsPromise.{ListsLent, AccessListsPromise}
-use Rattle.accesslists.specs.Listing as listing
+use Rattle.manyrectangles.specs.Lent.{ListsLent}
+use Rattle.accesslists.specs.AccessListsPromise.{AccessListsPromise}
+use Rattle.manyrectangles.specs.Listing as listing
 use Rattle.accesslists.specs.JoinLists.{joinInput}
 use Rattle.usedparts.specs.Lent as fields
 

@@ -17,10 +17,11 @@ use Rattle.walkgraph.proofs.Tests.{by-cases}
 use Rattle.walkgraph.proofs.Numbering.{seek}
 use Rattle.judge.proofs.Accepted.{grid}
 use Rattle.judge.proofs.Judging.{accepted-parts}
-use Rattle.accesslists.specs.AccessListsPromise.{ListsLent, AccessListsPromise}
+use Rattle.manyrectangles.specs.Lent.{ListsLent}
+use Rattle.accesslists.specs.AccessListsPromise.{AccessListsPromise}
 use Rattle.accesslists.specs.AccessListsPromise as lists
-use Rattle.accesslists.proofs.Rectangles.{access-most}
-use Rattle.accesslists.proofs.AllCells.{all-most}
+use Rattle.manyrectangles.proofs.Rectangles.{access-most}
+use Rattle.manyrectangles.proofs.AllCells.{all-most}
 use Rattle.accesslists.proofs.Verdicts.{all-fit}
 use Rattle.numbers.specs.Numbers.{ListedInU32, JoinedInU32}
 

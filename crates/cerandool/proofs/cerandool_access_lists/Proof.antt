@@ -1,7 +1,7 @@
 -- `cerandool::cerandool_access_lists`: the promise of access of many rectangles, of the answer's numbers.
 use denote.Ref.{now}
 use borrow.Author.Needs.{needs}
-use Rattle.accesslists.specs.Listing.{lent}
+use Rattle.manyrectangles.specs.Listing.{lent}
 use Rattle.numbers.proofs.Counts.{lists-in-u32}
 use Rattle.cerandool.proofs.cerandool_access_lists.Statement.{statement}
 use Rattle.cerandool.proofs.cerandool_access_lists.Tie as tie

@@ -8,7 +8,7 @@ use lib.Seq.{length-take-le}
 use borrow.Author.Needs.{needs}
 use Rattle.walkgraph.specs.AccessPromise.{listed}
 use Rattle.accesslists.specs.AccessListsPromise.{AccessListsPromise}
-use Rattle.accesslists.specs.Listing.{lent}
+use Rattle.manyrectangles.specs.Listing.{lent}
 use Rattle.accesslists.specs.Answers.{answerOf}
 use Rattle.accesslists.proofs.JoinLists.{lists-long}
 use Rattle.groups.specs.Groups.{zeroLists}

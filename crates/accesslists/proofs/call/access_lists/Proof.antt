@@ -4,8 +4,9 @@ use borrow.Author.Needs.{needs}
 use lib.ListN.{length}
 use Rattle.walkgraph.specs.Refusals.{accepted}
 use Rattle.judge.specs.Verdicts.{verdictOf}
-use Rattle.accesslists.specs.AccessListsPromise.{ListsLent, listsVerdict}
-use Rattle.accesslists.specs.Listing.{lent}
+use Rattle.manyrectangles.specs.Lent.{ListsLent}
+use Rattle.accesslists.specs.AccessListsPromise.{listsVerdict}
+use Rattle.manyrectangles.specs.Listing.{lent}
 use Rattle.accesslists.specs.Answers.{answerOf}
 use Rattle.accesslists.proofs.Verdicts.{all-fit, call-refused, call-listed}
 use Rattle.accesslists.proofs.call.access_lists.Statement.{statement}

@@ -7,7 +7,7 @@ use Rattle.walkgraph.specs.Refusals.{badGrid, badFours}
 use Rattle.judge.specs.Verdicts.{verdictOf}
 use Rattle.judge.proofs.Judging.{found-bad, found-good}
 use Rattle.judge.proofs.Accepted.{grid, fours}
-use Rattle.accesslists.specs.Listing.{Judged}
+use Rattle.manyrectangles.specs.Listing.{Judged}
 use Rattle.accesslists.proofs.Verdicts.{grid-refused, count-refused, rectangle-refused, judged-all, indices-short, ends-short, none-short}
 use Rattle.accesslists.proofs.order.judged.Statement.{statement}
 use Rattle.accesslists.proofs.order.judged.Tie as tie

@@ -3,8 +3,8 @@ use crate::one;
 ghost use mathlib.Core.Path.{_≡_};
 ghost use Prim.Native.Nat.{_/_};
 ghost use lib.ListN.{length};
-ghost use Rattle.accesslists.specs.AllCells.{allCells};
-ghost use Rattle.accesslists.specs.Listing.{lent, Judged, AllFit, AllListed};
+ghost use Rattle.manyrectangles.specs.AllCells.{allCells};
+ghost use Rattle.manyrectangles.specs.Listing.{lent, Judged, AllFit, AllListed};
 
 // How many access cells all rectangles have together.
 pub fn count_all(cells: &[u8], rectangles: &[i32], width: usize, height: usize) -> usize

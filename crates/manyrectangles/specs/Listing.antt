@@ -6,8 +6,8 @@ use Prim.Native.Nat.{ℕ, _+_, _/_, _≤_, _<_}
 use lib.ListN.{length}
 use lib.IntN.{ℤ}
 use Rattle.walkgraph.specs.Refusals.{badGrid, badFours, firstBadResource}
-use Rattle.accesslists.specs.AllCells.{cellsOf, allCells}
-use Rattle.accesslists.specs.AccessListsPromise.{ListsLent, listedIn}
+use Rattle.manyrectangles.specs.AllCells.{cellsOf, allCells}
+use Rattle.manyrectangles.specs.Lent.{ListsLent, listedIn}
 
 abbrev pub lent : List ℕ → List ℕ → ListsLent
 lent indices ends = record { indices = indices; ends = ends }

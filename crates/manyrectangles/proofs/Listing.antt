@@ -9,10 +9,10 @@ use lib.IntN.{ℤ}
 use borrow.Rule.Slice.PartMut.{midOf, putMid, postOf}
 use Rattle.ringlists.specs.Lists.{Listed}
 use Rattle.ringlists.proofs.Listing.{listed-more}
-use Rattle.accesslists.specs.AllCells.{allCells, endsOf}
-use Rattle.accesslists.specs.AccessListsPromise.{listedIn}
-use Rattle.accesslists.specs.Listing.{lent, AllListed}
-use Rattle.accesslists.proofs.AllCells.{ends-more, ends-length}
+use Rattle.manyrectangles.specs.AllCells.{allCells, endsOf}
+use Rattle.manyrectangles.specs.Lent.{listedIn}
+use Rattle.manyrectangles.specs.Listing.{lent, AllListed}
+use Rattle.manyrectangles.proofs.AllCells.{ends-more, ends-length}
 
 -- ---- the part behind the used entries
 module _ (p before : List ℕ) (used : ℕ) (room : used + length p ≤ length before) where

@@ -1,12 +1,12 @@
--- `accesslists::all::count_all`: the access cells of the rectangles that the loop passed.
+-- `manyrectangles::all::count_all`: the access cells of the rectangles that the loop passed.
 use mathlib.Core.Path.{_≡_, sym, ap}
 use Prim.Native.Nat.{_+_, _-_, _/_, _≤_}
 use native.Mathlib.Omega.{arith}
 use lib.ListN.{length}
-use Rattle.accesslists.specs.AllCells.{allCells}
-use Rattle.accesslists.proofs.AllCells.{all-none, all-length, all-most}
-use Rattle.accesslists.proofs.all.count_all.Statement.{statement}
-use Rattle.accesslists.proofs.all.count_all.Tie as tie
+use Rattle.manyrectangles.specs.AllCells.{allCells}
+use Rattle.manyrectangles.proofs.AllCells.{all-none, all-length, all-most}
+use Rattle.manyrectangles.proofs.all.count_all.Statement.{statement}
+use Rattle.manyrectangles.proofs.all.count_all.Tie as tie
 
 abbrev Inv-loop : tie.InvT-loop
 Inv-loop cells rectangles width height total₀ k₀ k-end total k = (k ≤ length rectangles / 4) × (total ≡ length (allCells width height cells rectangles k))

@@ -1,15 +1,15 @@
--- `accesslists::one::list_one`: the rectangle is not refused, and what is listed in the part behind the used entries is listed in the buffer behind them.
+-- `manyrectangles::one::list_one`: the rectangle is not refused, and what is listed in the part behind the used entries is listed in the buffer behind them.
 use mathlib.Core.Path.{ap}
 use borrow.Author.Needs.{needs}
 use native.Mathlib.Omega.{arith}
 use lib.ListN.{length}
 use Rattle.walkgraph.specs.Painting.{rectangle}
 use Rattle.rings.specs.Rings.{RingOf, Accepted}
-use Rattle.accesslists.specs.AllCells.{cellsOf}
-use Rattle.accesslists.proofs.Rectangles.{ring-may, not-refused, one-on-map, one-cells}
-use Rattle.accesslists.proofs.Listing.{part-length, part-listed}
-use Rattle.accesslists.proofs.one.list_one.Statement.{statement}
-use Rattle.accesslists.proofs.one.list_one.Tie as tie
+use Rattle.manyrectangles.specs.AllCells.{cellsOf}
+use Rattle.manyrectangles.proofs.Rectangles.{ring-may, not-refused, one-on-map, one-cells}
+use Rattle.manyrectangles.proofs.Listing.{part-length, part-listed}
+use Rattle.manyrectangles.proofs.one.list_one.Statement.{statement}
+use Rattle.manyrectangles.proofs.one.list_one.Tie as tie
 
 ring-at-requires : tie.Need-ring-at-requires
 ring-at-requires c κs = ring-may (c .before .before .pre .one)

@@ -1,12 +1,12 @@
--- `accesslists::one::count_one`: the rectangle is not refused, and its access cells are those of the rows of its ring.
+-- `manyrectangles::one::count_one`: the rectangle is not refused, and its access cells are those of the rows of its ring.
 use mathlib.Core.Path.{ap, _∙_}
 use borrow.Author.Needs.{needs}
 use lib.ListN.{length}
 use Rattle.walkgraph.specs.Painting.{rectangle}
 use Rattle.rings.specs.Rings.{RingOf, Accepted}
-use Rattle.accesslists.proofs.Rectangles.{ring-may, not-refused, one-on-map, one-cells}
-use Rattle.accesslists.proofs.one.count_one.Statement.{statement}
-use Rattle.accesslists.proofs.one.count_one.Tie as tie
+use Rattle.manyrectangles.proofs.Rectangles.{ring-may, not-refused, one-on-map, one-cells}
+use Rattle.manyrectangles.proofs.one.count_one.Statement.{statement}
+use Rattle.manyrectangles.proofs.one.count_one.Tie as tie
 
 ring-at-requires : tie.Need-ring-at-requires
 ring-at-requires c κs = ring-may (c .before .pre)

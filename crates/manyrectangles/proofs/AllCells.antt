@@ -14,9 +14,9 @@ use Rattle.walkgraph.proofs.Lists.{length-tabulate, getD-tabulate}
 use Rattle.judge.proofs.Accepted.{grid, fours}
 use Rattle.ringlists.specs.Places.{inOrder}
 use Rattle.ringlists.proofs.Places.{in-order-more, in-order-up, in-order-most}
-use Rattle.accesslists.specs.AllCells.{cellsOf, allCells, endsOf}
-use Rattle.accesslists.specs.Listing.{Judged}
-use Rattle.accesslists.proofs.Rectangles.{cells-most}
+use Rattle.manyrectangles.specs.AllCells.{cellsOf, allCells, endsOf}
+use Rattle.manyrectangles.specs.Listing.{Judged}
+use Rattle.manyrectangles.proofs.Rectangles.{cells-most}
 
 module _ (w h : ℕ) (cells : List ℕ) (l : List ℤ) where
   pub all-none : allCells w h cells l 0 ≡ []

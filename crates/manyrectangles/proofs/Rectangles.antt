@@ -20,8 +20,8 @@ use Rattle.judge.proofs.Accepted.{grid}
 use Rattle.ringruns.specs.Runs.{OnMap}
 use Rattle.ringrows.specs.Rows.{ringPlaces}
 use Rattle.access.proofs.Answers.{found-on-map, found-access}
-use Rattle.accesslists.specs.AllCells.{cellsOf}
-use Rattle.accesslists.specs.Listing.{OneOf}
+use Rattle.manyrectangles.specs.AllCells.{cellsOf}
+use Rattle.manyrectangles.specs.Listing.{OneOf}
 
 -- ---- a ring box has no more cells than the map
 row-most : (width : ℕ) (test : ℕ → ℕ → Bool) (y x n : ℕ) → length (placesInRow width test y x n) ≤ n

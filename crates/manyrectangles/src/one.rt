@@ -5,8 +5,8 @@ use rings::ring::Ring;
 ghost use mathlib.Core.Path.{_≡_};
 ghost use lib.ListN.{length};
 ghost use Rattle.ringlists.specs.Lists.{Listed};
-ghost use Rattle.accesslists.specs.AllCells.{cellsOf};
-ghost use Rattle.accesslists.specs.Listing.{OneOf, OneFits};
+ghost use Rattle.manyrectangles.specs.AllCells.{cellsOf};
+ghost use Rattle.manyrectangles.specs.Listing.{OneOf, OneFits};
 
 // How many access cells rectangle k has.
 pub fn count_one(cells: &[u8], rectangles: &[i32], k: usize, width: usize, height: usize) -> usize

@@ -1,0 +1,4 @@
+-- The laws that the proofs of this crate and of those above it cite.
+pub mod Rectangles
+pub mod AllCells
+pub mod Listing
