@@ -1,11 +1,13 @@
 -- Inside cells of a row are consecutive. The octile gap to a box is the largest of six forms that are linear in the column, each with a slope of a fixed
 -- sign: so is the sum of two. Between two columns such a form is at most its value at one of the two.
 use mathlib.Core.Path.{_≡_}
+use mathlib.Core.Logic.{_⊎_, inl, inr}
 use Prim.Native.Nat.{ℕ, _+_, _*_, _-_, _≤_}
 use native.Mathlib.Omega.{arith}
 use native.Mathlib.Decide.{decLe}
 use Rattle.walkgraph.specs.Map.{Box}
 use Rattle.walkgraph.specs.Window.{gap, octile, octileGap, Inside}
+use Rattle.walkgraph.proofs.Tests.{by-cases}
 use Rattle.walkgraph.proofs.Distances.{octile-l, octile-r, gap-low, gap-high}
 
 -- what o, the octile gap at the column x, is at least: the six forms, o being octile (gap x l r) g
@@ -33,16 +35,29 @@ above l r g x =
     let d = gap-high x l r in
     omega arith
 
+-- octile is one of its two forms
+octile-one : (a g : ℕ) → ((g ≤ a) × (octile a g ≡ 1000 * a + 414 * g)) ⊎ ((a ≤ g) × (octile a g ≡ 414 * a + 1000 * g))
+unfolding octile
+octile-one a g = by-cases (decLe g a) (λ h. inl (h, omega arith)) (λ h. inr (omega arith, omega arith))
+
+-- the gap is 0, or the distance to one end
+gap-one : (x l r : ℕ) → l ≤ r → (gap x l r ≡ 0) ⊎ ((gap x l r + x ≡ l) ⊎ (gap x l r + r ≡ x))
+unfolding gap
+gap-one x l r e =
+    by-cases (decLe l x)
+    (λ h. by-cases (decLe x r) (λ k. inl (omega arith)) (λ k. inr (inr (omega arith))))
+    (λ h. inr (inl (omega arith)))
+
+one-of : (l r g x a o : ℕ) → (a ≡ 0) ⊎ ((a + x ≡ l) ⊎ (a + r ≡ x)) → ((g ≤ a) × (o ≡ 1000 * a + 414 * g)) ⊎ ((a ≤ g) × (o ≡ 414 * a + 1000 * g)) → One l r g x o
+one-of l r g x a o (inl z) (inl i) = flat (omega (arith, i .0, i .1))
+one-of l r g x a o (inl z) (inr i) = flat (omega (arith, i .1))
+one-of l r g x a o (inr (inl z)) (inl i) = left₁ (omega (arith, i .1))
+one-of l r g x a o (inr (inl z)) (inr i) = left₂ (omega (arith, i .1))
+one-of l r g x a o (inr (inr z)) (inl i) = right₁ (omega (arith, i .1))
+one-of l r g x a o (inr (inr z)) (inr i) = right₂ (omega (arith, i .1))
+
 one : (l r g x : ℕ) → l ≤ r → One l r g x (octile (gap x l r) g)
-unfolding octile gap
-one l r g x e = go (decLe l x) (decLe x r) (decLe g (l - x)) (decLe g (x - r))
-  where
-    go : Dec (l ≤ x) → Dec (x ≤ r) → Dec (g ≤ l - x) → Dec (g ≤ x - r) → One l r g x (octile (gap x l r) g)
-    go (yes p) (yes q) u v = flat (omega arith)
-    go (yes p) (no q) u (yes v) = right₁ (omega arith)
-    go (yes p) (no q) u (no v) = right₂ (omega arith)
-    go (no p) q (yes u) v = left₁ (omega arith)
-    go (no p) q (no u) v = left₂ (omega arith)
+one l r g x e = one-of l r g x (gap x l r) (octile (gap x l r) g) (gap-one x l r e) (octile-one (gap x l r) g)
 
 -- two boxes
 mid : {l r g l′ r′ g′ a m b oa om ob oa′ om′ ob′ k : ℕ} → a ≤ m → m ≤ b → Above l r g a oa → Above l r g b ob → Above l′ r′ g′ a oa′ → Above l′ r′ g′ b ob′ →

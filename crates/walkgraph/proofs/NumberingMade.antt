@@ -18,6 +18,14 @@ pub partial-done : {Link : ℕ → ℕ → Type 0} {n k : ℕ} {f : ℕ → ℕ}
 partial-done p = record { same = p .same; only = p .only; new = λ i h a. p .new i h a .0; high = λ i h a. p .new i h a .1 }
 
 module _ {Link : ℕ → ℕ → Type 0} {m k : ℕ} {f f′ : ℕ → ℕ} (p : Partial Link m k f) (rest : (i : ℕ) → i < m → f′ i ≡ f i) where
+  -- the first of its class among the first m keeps its number, and so do those before it
+  new-kept : (i : ℕ) → i < m → ((c : ℕ) → c < f i → (j : ℕ) × (j < i) × (f j ≡ c)) × ((j : ℕ) → j < i → f j < f i) →
+      ((c : ℕ) → c < f′ i → (j : ℕ) × (j < i) × (f′ j ≡ c)) × ((j : ℕ) → j < i → f′ j < f′ i)
+  new-kept i h t = (
+    λ c g. let u = t .0 c (omega (arith, rest i h)) in (u .0, u .1, rest (u .0) (omega (arith, u .1)) ∙ u .2),
+    λ c g. omega (arith, rest i h, rest c (omega arith), t .1 c g),
+  )
+
   -- the next is joined to an earlier one, and takes its number
   pub number-old : (a : ℕ) → a < m → Joined Link a m → f′ m ≡ f a → Partial Link (suc m) k f′
   number-old a h j e = record { below = below; used = used; same = same; only = only; new = new }
@@ -55,10 +63,7 @@ module _ {Link : ℕ → ℕ → Type 0} {m k : ℕ} {f f′ : ℕ → ℕ} (p :
       new i l b =
           by-cases (ℕ-discrete i m)
           (λ x. absurd (b a (omega arith) (rw x j)))
-          (λ x.
-          let t = p .new i (omega arith) b in
-          let z = rest i (omega arith) in
-          (λ c g. let u = t .0 c (omega arith) in (u .0, u .1, rest (u .0) (omega (arith, u .1)) ∙ u .2), λ c g. omega (arith, rest c (omega arith), t .1 c g)))
+          (λ x. new-kept i (omega arith) (p .new i (omega arith) b))
 
   -- the next is joined to none, and takes a new number
   pub number-new : ((a : ℕ) → a < m → ¬ (Joined Link a m)) → f′ m ≡ k → Partial Link (suc m) (suc k) f′
@@ -104,7 +109,4 @@ module _ {Link : ℕ → ℕ → Type 0} {m k : ℕ} {f f′ : ℕ → ℕ} (p :
             λ c g. let u = p .used c (omega arith) in (u .0, omega (arith, u .1), rest (u .0) (u .1) ∙ u .2),
             λ c g. omega (arith, rest c (omega arith), p .below c (omega arith)),
           ))
-          (λ x.
-          let t = p .new i (omega arith) b in
-          let z = rest i (omega arith) in
-          (λ c g. let u = t .0 c (omega arith) in (u .0, u .1, rest (u .0) (omega (arith, u .1)) ∙ u .2), λ c g. omega (arith, rest c (omega arith), t .1 c g)))
+          (λ x. new-kept i (omega arith) (p .new i (omega arith) b))

@@ -200,18 +200,21 @@ module _ (reach : ℕ) (i : FieldInput) (before after : Lent) (sweeps : ℕ) (ok
       (not-T (fits (recordOf C) size && inRecord (recordOf C) x y) (λ t. n (record-in x y (and-right (fits (recordOf C) size) (inRecord (recordOf C) x y) t))))
 
   -- the lanes of a cell of the window
+  cell-value : (l x y v : ℕ) → In W x y → LaneIs C l (x - W .left + 1) (y - W .top + 1) v → Value C l x y v
+  cell-value l x y v j c =
+      let w = width-is C in
+      let k = height-is C in
+      let e : W .left + (x - W .left + 1) - 1 ≡ x = omega arith in
+      let g : W .top + (y - W .top + 1) - 1 ≡ y = omega arith in
+      rw (e, g) at (lane-value {v = v} c (omega arith, omega arith, omega arith, omega arith))
+
   cell-lane : (l x y : ℕ) → l < C .lanes → In W x y → (v : ℕ) × Value C l x y v × (getD (after .lanes) (((y - W .top + 1) * (W .right + 1 - W .left + 2) + (x - W .left + 1)) * C .lanes + l) (pos 0) ≡ laneOf (bias reach) v)
   unfolding lanePlace cellPlace callOf
   cell-lane l x y h j =
       let w = width-is C in
       let k = height-is C in
-      let X = x - W .left + 1 in
-      let Y = y - W .top + 1 in
-      let c = f .lanes .cells l X Y h (omega arith) (omega arith) in
-      let v = lane-value (c .1) (omega arith, omega arith, omega arith, omega arith) in
-      let e : W .left + X - 1 ≡ x = omega arith in
-      let g : W .top + Y - 1 ≡ y = omega arith in
-      (c .0, rw (e, g) at v, sym (ap (λ (n : ℕ). getD (after .lanes) ((Y * (n + 2) + X) * C .lanes + l) (pos 0)) w) ∙ c .2)
+      let c = f .lanes .cells l (x - W .left + 1) (y - W .top + 1) h (omega arith) (omega arith) in
+      (c .0, cell-value l x y (c .0) j (c .1), sym (ap (λ (n : ℕ). getD (after .lanes) (((y - W .top + 1) * (n + 2) + (x - W .left + 1)) * C .lanes + l) (pos 0)) w) ∙ c .2)
 
   pub demand-3-made : (l x y : ℕ) → l < C .lanes → In (C .targets) x y → Demand3 reach C (recordOf C) (after .lanes) l x y
   unfolding recordOf callOf

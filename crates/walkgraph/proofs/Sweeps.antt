@@ -83,19 +83,26 @@ pub data View (Walkable : ℕ → ℕ → Type 0) (x y u v k : ℕ) : Type 0 whe
   west : u ≡ suc x → distance y v ≡ 1 → k ≡ 707 → Walkable x v → Walkable u y → View Walkable x y u v k
   east : x ≡ suc u → distance y v ≡ 1 → k ≡ 707 → Walkable x v → Walkable u y → View Walkable x y u v k
 
-pub view : {Walkable : ℕ → ℕ → Type 0} {x y u v k : ℕ} → Step Walkable x y u v k → View Walkable x y u v k
+-- two rows or columns with no distance are one, at a distance of 1 one is the next of the other, and of two distances that make 1 one is 0
+distance-none : (a b : ℕ) → distance a b ≡ 0 → b ≡ a
 unfolding distance
-view {Walkable} {x} {y} {u} {v} (straight e) = go (decLe x u) (decLe u x)
-  where
-    go : Dec (x ≤ u) → Dec (u ≤ x) → View Walkable x y u v 500
-    go (yes p) (yes q) = upright (omega arith) (omega arith) refl
-    go (yes p) (no q) = rightwards (omega arith) (omega arith) refl
-    go (no p) q = leftwards (omega arith) (omega arith) refl
-view {Walkable} {x} {y} {u} {v} (diagonal e f p q) = go (decLe x u)
-  where
-    go : Dec (x ≤ u) → View Walkable x y u v 707
-    go (yes h) = west (omega arith) f refl p q
-    go (no h) = east (omega arith) f refl p q
+distance-none a b e = omega arith
+
+distance-one : (a b : ℕ) → distance a b ≡ 1 → (b ≡ suc a) ⊎ (a ≡ suc b)
+unfolding distance
+distance-one a b e = by-cases (decLe a b) (λ h. inl (omega arith)) (λ h. inr (omega arith))
+
+one-of-two : (p q : ℕ) → p + q ≡ 1 → ((p ≡ 1) × (q ≡ 0)) ⊎ ((p ≡ 0) × (q ≡ 1))
+one-of-two zero q e = inr (refl, omega arith)
+one-of-two (suc p) q e = inl (omega arith, omega arith)
+
+pub view : {Walkable : ℕ → ℕ → Type 0} {x y u v k : ℕ} → Step Walkable x y u v k → View Walkable x y u v k
+view {x = x} {y = y} {u = u} {v = v} (straight e) =
+    ⊎-elim
+    (λ i. ⊎-elim (λ g. rightwards g (distance-none y v (i .1)) refl) (λ g. leftwards g (distance-none y v (i .1)) refl) (distance-one x u (i .0)))
+    (λ i. upright (distance-none x u (i .0)) (i .1) refl)
+    (one-of-two (distance x u) (distance y v) e)
+view {x = x} {u = u} (diagonal e f p q) = ⊎-elim (λ g. west g f refl p q) (λ g. east g f refl p q) (distance-one x u e)
 
 -- to show something of each row, show it of the row at each place
 by-row-place : (m : PaddedWindow) (d : Direction) (P : ℕ → Type 0) → ((i : ℕ) → i ≤ m .height + 1 → P (place m d i)) → (y : ℕ) → y ≤ m .height + 1 → P y
@@ -340,24 +347,23 @@ twice-is (suc j) = omega (arith, twice-is j)
 
 module _ (m : PaddedWindow) (p : PaddingShut m) (Source : ℕ → ℕ → Type 0) where
   -- each step goes with one of the two directions
+  next-level : (d : Direction) (y v : ℕ) → v ≤ m .height → v ≡ suc y → Level m d y v ⊎ Level m (turn d) y v
+  unfolding place turn
+  next-level down y v h e = inl (next e)
+  next-level up y v h e = inr (next e)
+
+  back-level : (d : Direction) (y v : ℕ) → y ≤ m .height → y ≡ suc v → Level m d y v ⊎ Level m (turn d) y v
+  unfolding place turn
+  back-level down y v h e = inr (next (omega arith))
+  back-level up y v h e = inl (next (omega arith))
+
+  rows-level : (d : Direction) (y v : ℕ) → y ≤ m .height → v ≤ m .height → distance y v ≡ 1 → Level m d y v ⊎ Level m (turn d) y v
+  rows-level d y v h k e = ⊎-elim (next-level d y v k) (back-level d y v h) (distance-one y v e)
+
   level : {x y u v k : ℕ} → Allowed m x y → Allowed m u v → Step (Walkable m) x y u v k → (d : Direction) → Level m d y v ⊎ Level m (turn d) y v
-  unfolding distance place turn
-  level {x} {y} {u} {v} a b s d =
-      let i = written-in m p _ _ a in
-      let j = written-in m p _ _ b in
-      go s (decLe y v) (decLe v y) d i j
-    where
-      go : {k : ℕ} → Step (Walkable m) x y u v k → Dec (y ≤ v) → Dec (v ≤ y) → (d : Direction) →
-          ((1 ≤ x) × (x ≤ m .width) × (1 ≤ y) × (y ≤ m .height)) → ((1 ≤ u) × (u ≤ m .width) × (1 ≤ v) × (v ≤ m .height)) → Level m d y v ⊎ Level m (turn d) y v
-      go s (yes h) (yes k) d i j = inl (same (omega arith))
-      go (straight e) (yes h) (no k) down i j = inl (next (omega arith))
-      go (straight e) (yes h) (no k) up i j = inr (next (omega arith))
-      go (straight e) (no h) k down i j = inr (next (omega arith))
-      go (straight e) (no h) k up i j = inl (next (omega arith))
-      go (diagonal e f a b) (yes h) (no k) down i j = inl (next (omega arith))
-      go (diagonal e f a b) (yes h) (no k) up i j = inr (next (omega arith))
-      go (diagonal e f a b) (no h) k down i j = inr (next (omega arith))
-      go (diagonal e f a b) (no h) k up i j = inl (next (omega arith))
+  level {x} {y} {u} {v} a b (straight e) d =
+      ⊎-elim (λ i. inl (same (distance-none y v (i .1)))) (λ i. rows-level d y v (written-in m p x y a .3) (written-in m p u v b .3) (i .1)) (one-of-two (distance x u) (distance y v) e)
+  level {x} {y} {u} {v} a b (diagonal e f o q) d = rows-level d y v (written-in m p x y a .3) (written-in m p u v b .3) f
 
   -- ---- values that no step lowers are the field
   both-settled : {t : List (List ℕ)} (d : Direction) → Sound m Source t → Closed m d t → Closed m (turn d) t → Settled (m .reach) (Walkable m) (Allowed m) Source (valueAt m t)
