@@ -20,7 +20,8 @@ use Rattle.walkgraph.proofs.Sweeps.{PaddingShut}
 use Rattle.window.specs.declared.record.Window.{Window}
 use Rattle.window.specs.Windows.{windowOver}
 use Rattle.startcells.specs.Hits.{startsHere, cellsHit}
-use Rattle.start.specs.Hits.{firstColumn, pastColumn, rowHit, ringHit, lanesHit}
+use Rattle.startring.specs.Hits.{firstColumn, pastColumn, rowHit, ringHit}
+use Rattle.start.specs.Hits.{lanesHit}
 use Rattle.startcells.proofs.Some.{some-at, at-some}
 
 module _ (c : Call) (walk rows : List ℕ) (fits : resourceCount c ≤ c .lanes)
