@@ -1,10 +1,9 @@
 // One sweep by its direction, and the alternating sweeps up to the first quiet one after the first.
+use quietsweep;
 use row::visit;
 use ways::gate;
-ghost use mathlib.Core.Path.{_≡_};
-ghost use mathlib.Core.Bool.{false, cond};
+ghost use mathlib.Core.Bool.{false};
 ghost use lib.ListN.{length};
-ghost use lib.Dec.{leb};
 ghost use Rattle.sweep.specs.Sweeps.{Turns, OneSweep, Ended};
 ghost use Rattle.row.specs.Buffers.{groundOf, stateOf};
 ghost use Rattle.sweep.specs.Buffers.{runOf, SweepFits, RunFits, CanRun};
@@ -96,16 +95,6 @@ pub fn alternate(
     )
 }
 
-// Whether the run ends with sweep number count: a quiet one after the first.
-pub fn ends(changed: bool, count: usize) -> bool
-    ensures { λ r. ⌜ r ≡ cond changed false (leb 2 count) ⌝ }
-{
-    if changed {
-        return false;
-    }
-    2 <= count
-}
-
 // The alternating sweeps, down first: how many, the quiet one included.
 pub fn run(
     lanes: &mut [i16],
@@ -138,7 +127,7 @@ pub fn run(
             count,
         );
         count += 1;
-        if ends(changed, count) {
+        if quietsweep::ends(changed, count) {
             break count;
         }
     }

@@ -1,7 +1,7 @@
--- `run::ends`: not where something changed; else from the second sweep on.
+-- `quietsweep::ends`: not where something changed; else from the second sweep on.
 use borrow.Author.Needs.{needs}
-use Rattle.sweep.proofs.run.ends.Statement.{statement}
-use Rattle.sweep.proofs.run.ends.Tie as tie
+use Rattle.quietsweep.proofs.ends.Statement.{statement}
+use Rattle.quietsweep.proofs.ends.Tie as tie
 
 returns : tie.Need-returns
 returns c = search needs
