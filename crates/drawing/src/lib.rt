@@ -1,6 +1,6 @@
 // The sheet of a room, put on a page: the field call judges the room and makes its field, and the sheet shows it with its resources' fields.
 use cells::boxes::CellBox;
-use field::Answer;
+use fieldanswer::Answer;
 use fieldsheet;
 use page::lines;
 ghost use mathlib.Core.Path.{_≡_};

@@ -9,9 +9,9 @@ use Rattle.walkgraph.specs.Promise.{FieldPromise}
 use Rattle.walkgraph.proofs.Promises.{promise-one}
 use Rattle.window.specs.declared.record.Window.{Window}
 use Rattle.window.specs.Windows.{asRecord}
-use Rattle.field.specs.declared.Answer.{Answer}
-use Rattle.field.specs.declared.Answer.the-variants.{Refused, Made}
-use Rattle.field.specs.Answers.{answerOf}
+use Rattle.fieldanswer.specs.declared.Answer.{Answer}
+use Rattle.fieldanswer.specs.declared.Answer.the-variants.{Refused, Made}
+use Rattle.fieldanswer.specs.Answers.{answerOf}
 
 same-window : (v w : Window) → asRecord v ≡ asRecord w → v ≡ w
 same-window v w e =

@@ -1,11 +1,13 @@
 -- The field call's promise from its plan: the call is refused, there is nothing to make, or the field is made at a site.
 use mathlib.Core.Path.{_≡_, sym, _∙_, subst}
+use mathlib.Core.Logic.{_⊎_, ⊎-elim}
 use mathlib.Core.Bool.{Bool, true, _&&_}
 use Prim.Native.Nat.{ℕ, _+_, _*_, _≤_}
 use native.Mathlib.Nat.{mul-comm}
 use native.Mathlib.Omega.{arith}
 use lib.ListN.{length}
 use lib.Dec.{T, leb, leb→le}
+use denote.Enum.Declared.{tagOf}
 use Rattle.walkgraph.specs.Buffers.{Call, Lent, FieldMade}
 use Rattle.walkgraph.specs.Reading.{noWindow}
 use Rattle.walkgraph.specs.Refusals.{FieldInput, callOf}
@@ -16,11 +18,14 @@ use Rattle.window.specs.declared.record.Window.{Window}
 use Rattle.window.specs.Windows.{asRecord}
 use Rattle.window.specs.Fills.{AreBits}
 use Rattle.plan.specs.declared.Lent as plan
+use Rattle.plan.proofs.Plan.{the-type}
+use Rattle.plan.specs.declared.Plan.{Plan}
 use Rattle.plan.specs.declared.Plan.the-variants.{Refused, Nothing, Make}
 use Rattle.plan.specs.declared.site.Site.{Site}
 use Rattle.plan.specs.Plans.{enough, Lengths, ToMake, PlanOf}
 use Rattle.plan.proofs.Plans.{in-limits, record-is}
 use Rattle.make.specs.Makes.{siteCall, MakeFits}
+use Rattle.fieldanswer.specs.Answers.{unmadeAnswer}
 
 -- the lengths that a window needs
 pub record Roomy (w : Window) (l : plan.Lent) : Type 0 where
@@ -52,13 +57,19 @@ roomy w l t =
     }
 
 module _ (i : FieldInput) (lengths : plan.Lent) (before : Lent) (long : Lengths lengths before) where
-  pub call-refused : {number place : ℕ} → PlanOf i lengths (Refused number place) → FieldPromise reach i before before (refusal number place)
+  call-refused : {number place : ℕ} → PlanOf i lengths (Refused number place) → FieldPromise reach i before before (refusal number place)
   unfolding PlanOf
   call-refused p = refuses (p before long)
 
-  pub call-nothing : PlanOf i lengths Nothing → FieldPromise reach i before before (made (noWindow (i .lanes)) 0)
+  call-nothing : PlanOf i lengths Nothing → FieldPromise reach i before before (made (noWindow (i .lanes)) 0)
   unfolding PlanOf
   call-nothing p = nothing (p .judged before long) (p .none)
+
+  pub call-unmade : (p : Plan) → (tagOf the-type p ≡ 0) ⊎ (tagOf the-type p ≡ 1) → PlanOf i lengths p → FieldPromise reach i before before (unmadeAnswer p (i .lanes))
+  unfolding unmadeAnswer
+  call-unmade (Refused number place) h p = call-refused p
+  call-unmade Nothing h p = call-nothing p
+  call-unmade (Make s) h p = absurd (⊎-elim (λ e. omega (arith, e)) (λ e. omega (arith, e)) h)
 
   module _ (s : Site) (p : PlanOf i lengths (Make s)) where
     to-make : ToMake i lengths s

@@ -1,22 +1,16 @@
 // The field call: judges its arguments, then answers with a refusal, with nothing made, or with the field made.
+use fieldanswer;
+use fieldanswer::Answer;
 use make;
 use plan;
 use plan::Lent;
 use plan::Plan;
-use window::record;
-use window::record::Window;
 ghost use Rattle.walkgraph.specs.Promise.{FieldPromise};
 ghost use Rattle.cells.specs.Boxes.{reach};
 ghost use Rattle.rings.specs.Rings.{corners};
 ghost use Rattle.plan.specs.Plans.{inputOf};
 ghost use Rattle.make.specs.Makes.{lent};
-ghost use Rattle.field.specs.Answers.{answerOf};
-
-// A refusal's number and place, or the window record and the sweep count.
-pub enum Answer {
-    Refused { number: u32, place: u32 },
-    Made { window: Window, sweeps: usize },
-}
+ghost use Rattle.fieldanswer.specs.Answers.{answerOf};
 
 // The field of resources around a target box, on a map of walk cells painted with blockers.
 pub fn field(
@@ -65,14 +59,8 @@ pub fn field(
         bottom,
         lent,
     );
-    if let Plan::Refused { number, place } = found {
-        return Answer::Refused { number, place };
-    }
     let Plan::Make(site) = found else {
-        return Answer::Made {
-            window: record::nothing(lanes as usize),
-            sweeps: 0,
-        };
+        return fieldanswer::unmade(found, lanes as usize);
     };
     let window = site.window;
     let sweeps = make::make(

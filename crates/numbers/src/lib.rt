@@ -1,11 +1,11 @@
 // The answers of the library's calls in numbers alone, as the static library gives them back.
 use access;
 use accesslists;
-use field;
+use fieldanswer;
 use fields;
 ghost use mathlib.Core.Path.{_≡_};
 ghost use Prim.Native.Nat.{_≤_};
-ghost use Rattle.field.specs.Answers as field;
+ghost use Rattle.fieldanswer.specs.Answers as field;
 ghost use Rattle.access.specs.Answers as access;
 ghost use Rattle.accesslists.specs.Answers as lists;
 ghost use Rattle.fields.specs.Answers as fields;
@@ -35,12 +35,12 @@ pub struct CountAnswer {
 }
 
 // The eight numbers of a field call's answer.
-pub fn field_numbers(answer: field::Answer) -> FieldAnswer
+pub fn field_numbers(answer: fieldanswer::Answer) -> FieldAnswer
     requires { ⌜ InU32 (field.answerOf answer) ⌝ }
     ensures { λ r. ⌜ r ≡ numbersOf (field.answerOf answer) ⌝ }
 {
     match answer {
-        field::Answer::Refused { number, place } => FieldAnswer {
+        fieldanswer::Answer::Refused { number, place } => FieldAnswer {
             number,
             place,
             left: 0,
@@ -50,7 +50,7 @@ pub fn field_numbers(answer: field::Answer) -> FieldAnswer
             lanes: 0,
             sweeps: 0,
         },
-        field::Answer::Made { window, sweeps } => FieldAnswer {
+        fieldanswer::Answer::Made { window, sweeps } => FieldAnswer {
             number: 0,
             place: 0,
             left: window.left as u32,

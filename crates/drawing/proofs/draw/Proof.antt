@@ -13,7 +13,7 @@ use Rattle.rings.specs.Rings.{corners}
 use Rattle.window.specs.Windows.{asRecord}
 use Rattle.plan.specs.Plans.{cellsOf, inputOf}
 use Rattle.make.specs.Makes.{lent}
-use Rattle.field.specs.Answers.{answerOf}
+use Rattle.fieldanswer.specs.Answers.{answerOf}
 use Rattle.drawing.specs.Drawings.{zeroField}
 use Rattle.drawing.proofs.Accepted.{box-natural, can-show}
 use Rattle.drawing.proofs.Shows.{line-room, refused-put, drawn-put}

@@ -18,8 +18,8 @@ use Rattle.plan.specs.declared.Plan.{Plan}
 use Rattle.plan.specs.declared.Plan.the-variants.{Refused, Nothing, Make}
 use Rattle.plan.specs.Plans.{inputOf, Lengths, PlanOf}
 use Rattle.make.specs.Makes.{lent}
-use Rattle.field.specs.Answers.{answerOf}
-use Rattle.field.proofs.Calls.{call-refused, call-nothing, make-fits, call-made}
+use Rattle.fieldanswer.specs.Answers.{answerOf}
+use Rattle.field.proofs.Calls.{call-unmade, make-fits, call-made}
 use Rattle.field.proofs.field.Statement.{statement}
 use Rattle.field.proofs.field.Tie as tie
 
@@ -56,41 +56,24 @@ planned c =
     let b = c .before .before .before .before .before .before .before .before in
     rw (toZ-ofZ w32 (b .args .left) (b .fits .left), toZ-ofZ w32 (b .args .top) (b .fits .top), toZ-ofZ w32 (b .args .right) (b .fits .right), toZ-ofZ w32 (b .args .bottom) (b .fits .bottom)) at (c .plan-of .ensures)
 
--- a plan that neither refuses nor makes
-neither : (p : Plan) → (tagOf the-type p ≡ 1) ⊎ (tagOf the-type p ≡ 2) → (tagOf the-type p ≡ 0) ⊎ (tagOf the-type p ≡ 1) → p ≡ Nothing
-neither (Refused number place) a b = absurd (⊎-elim (λ e. omega (arith, e)) (λ e. omega (arith, e)) a)
-neither Nothing a b = refl
-neither (Make s) a b = absurd (⊎-elim (λ e. omega (arith, e)) (λ e. omega (arith, e)) b)
-
 plan-of-requires : tie.Need-plan-of-requires
 plan-of-requires c κs = search needs
 
 enum-known-found : tie.Need-enum-known-found
 enum-known-found c = search needs
 
+unmade-requires : tie.Need-unmade-requires
+unmade-requires c κs = tt
+
 returns : tie.Need-returns
-unfolding answerOf
 returns c =
-    let b = c .before .before .before .before .before .before .before .before .before .before .before in
-    call-refused (input b) (lengths b) (before b) (same-lengths b) (rw (c .before .found .given .1) at (planned (c .before .before .before)))
-
-enum-known-found-2 : tie.Need-enum-known-found-2
-enum-known-found-2 c = search needs
-
-nothing-requires : tie.Need-nothing-requires
-nothing-requires c κs = search needs
-
-returns-2 : tie.Need-returns-2
-unfolding answerOf
-returns-2 c =
-    let b = c .before .before .before .before .before .before .before .before .before .before .before in
-    let p = subst (PlanOf (input b) (lengths b)) (neither _ (c .before .before .match .keys2) (c .before .match2 .keys2)) (planned (c .before .before .before)) in
-    rw (c .nothing .ensures) (call-nothing (input b) (lengths b) (before b) (same-lengths b) p)
+    let b = c .before .before .before .before .before .before .before .before .before .before in
+    rw (c .unmade .ensures) (call-unmade (input b) (lengths b) (before b) (same-lengths b) _ (c .before .match .keys2) (planned (c .before .before)))
 
 make-requires : tie.Need-make-requires
 make-requires c κs =
-    let b = c .before .before .before .before .before .before .before .before .before .before .before .before .before .before .before .before .before .before .before .before in
-    make-fits (input b) (lengths b) (before b) (same-lengths b) _ (rw (c .before .before .before .before .before .before .before .before .before .found2 .given .1) at (planned (c .before .before .before .before .before .before .before .before .before .before .before .before)))
+    let b = c .before .before .before .before .before .before .before .before .before .before .before .before .before .before .before .before .before .before .before in
+    make-fits (input b) (lengths b) (before b) (same-lengths b) _ (rw (c .before .before .before .before .before .before .before .before .before .found .given .1) at (planned (c .before .before .before .before .before .before .before .before .before .before .before)))
 
 same-length : tie.Need-same-length
 same-length c = c .before .before .before .before .before .before .before .before .before .before .before .before .before .make .kept .1 .1 .1 .1 .0
@@ -113,13 +96,13 @@ same-length-6 c = c .before .before .before .before .before .before .before .bef
 same-length-7 : tie.Need-same-length-7
 same-length-7 c = c .before .before .before .before .before .before .before .before .before .before .before .before .before .make .kept .1 .1 .1 .1 .1 .1 .1 .1 .1 .1 .0
 
-returns-3 : tie.Need-returns-3
+returns-2 : tie.Need-returns-2
 unfolding answerOf
-returns-3 c =
+returns-2 c =
     let m = c .before .before .before .before .before .before .before .before .before .before .before .before .before in
-    let b = m .before .before .before .before .before .before .before .before .before .before .before .before .before .before .before .before .before .before .before .before .before in
+    let b = m .before .before .before .before .before .before .before .before .before .before .before .before .before .before .before .before .before .before .before .before in
     let l = m .make .last .1 .1 .1 .1 in
-    call-made (input b) (lengths b) (before b) (same-lengths b) _ (rw (m .before .before .before .before .before .before .before .before .before .before .found2 .given .1) at (planned (m .before .before .before .before .before .before .before .before .before .before .before .before .before)))
+    call-made (input b) (lengths b) (before b) (same-lengths b) _ (rw (m .before .before .before .before .before .before .before .before .before .before .found .given .1) at (planned (m .before .before .before .before .before .before .before .before .before .before .before .before)))
     {after = lent (l .0) (l .1 .0) (l .1 .1 .0) (l .1 .1 .1 .0) (l .1 .1 .1 .1 .0) (l .1 .1 .1 .1 .1 .0) (l .1 .1 .1 .1 .1 .1 .0)} (m .make .ensures)
 
 pub field-spec : {M : Type 1} → statement M
@@ -128,10 +111,8 @@ field-spec =
     (tie.spec
     plan-of-requires
     enum-known-found
+    unmade-requires
     returns
-    enum-known-found-2
-    nothing-requires
-    returns-2
     make-requires
     same-length
     same-length-2
@@ -140,4 +121,4 @@ field-spec =
     same-length-5
     same-length-6
     same-length-7
-    returns-3)
+    returns-2)

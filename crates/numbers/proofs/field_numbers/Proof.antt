@@ -1,7 +1,7 @@
 -- `numbers::field_numbers`: each case gives its own numbers, and those that are cast are u32s.
 use borrow.Author.Needs.{needs}
 use Rattle.window.specs.Windows.{asRecord}
-use Rattle.field.specs.Answers.{answerOf}
+use Rattle.fieldanswer.specs.Answers.{answerOf}
 use Rattle.numbers.specs.Numbers.{numbersOf, Small, InU32}
 use Rattle.numbers.proofs.field_numbers.Statement.{statement}
 use Rattle.numbers.proofs.field_numbers.Tie as tie

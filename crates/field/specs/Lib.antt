@@ -1,2 +1,0 @@
--- The field call's answer.
-pub mod Answers
