@@ -1,12 +1,14 @@
 -- Painting a box of cells, and one box after the other.
 use mathlib.Core.Path.{_≡_, refl}
 use mathlib.Core.List.{List}
-use Prim.Native.Nat.{ℕ, _+_, _*_, _-_, _/_, _≤_, _<_, max}
+use Prim.Native.Nat.{ℕ, _+_, _*_, _-_, _/_, _≤_, _<_, min, max}
 use native.Mathlib.Nat.{mul-le-mul, add-mul}
 use native.Mathlib.Numerals.{add-one}
 use native.Mathlib.Omega.{arith}
 use lib.IntN.{ℤ, pos, negsuc}
 use lib.ListN.{getD}
+use mir.Syntax.{w64}
+use mir.Val.{Fits}
 use borrow.Author.Tests.{lt-ltb, le-ltb}
 use Rattle.walkgraph.specs.Painting.{rectangle, clamp}
 use Rattle.walkgraph.proofs.Places.{flat-lt}
@@ -25,14 +27,74 @@ clamped size z h e = omega (arith, clamp-most (8 * size) z)
 product-most : (a s : ℕ) → a ≤ 1025 → s ≤ 1026 → a * s ≤ 1051650
 product-most a s p q = mul-le-mul p q
 
--- where the first painted row starts
-pub start-row : {w : Window} {walk left top right bottom cell y0 s : ℕ} → Paints w walk → Pixels left top right bottom → y0 ≡ max cell (w .top) → cell ≡ top / 8 → s ≡ w .width + 2 →
-    (y0 - w .top + 1) * s ≤ 1051650
-start-row {w} {walk} {left} {top} {right} {bottom} {cell} {y0} {s} p q e f g =
-    let c = p .columns in
-    let r = p .rows in
-    let t = q .from-top in
-    product-most (y0 - w .top + 1) s (omega arith) (omega arith)
+-- the four places of rectangle k of n numbers, and their bytes
+pub record FourPlaces (k n : ℕ) : Type 0 where
+  pub first : Fits w64 (4 * k)
+  pub first-bytes : Fits w64 (4 * k * 4)
+  pub first-in : 4 * k < n
+  pub second : Fits w64 (4 * k + 1)
+  pub second-bytes : Fits w64 ((4 * k + 1) * 4)
+  pub second-in : 4 * k + 1 < n
+  pub third : Fits w64 (4 * k + 2)
+  pub third-bytes : Fits w64 ((4 * k + 2) * 4)
+  pub third-in : 4 * k + 2 < n
+  pub fourth : Fits w64 (4 * k + 3)
+  pub fourth-bytes : Fits w64 ((4 * k + 3) * 4)
+  pub fourth-in : 4 * k + 3 < n
+
+pub four-places : (k n : ℕ) → 4 * k + 3 < n → Fits w64 (n * 4) → FourPlaces k n
+four-places k n h b =
+    record {
+      first = omega (arith, h, b);
+      first-bytes = omega (arith, h, b);
+      first-in = omega (arith, h);
+      second = omega (arith, h, b);
+      second-bytes = omega (arith, h, b);
+      second-in = omega (arith, h);
+      third = omega (arith, h, b);
+      third-bytes = omega (arith, h, b);
+      third-in = omega (arith, h);
+      fourth = omega (arith, h, b);
+      fourth-bytes = omega (arith, h, b);
+      fourth-in = h;
+    }
+
+-- the first painted cell of a box: its numbers fit their type, and no difference stops at 0
+pub record BoxNumbers (w : Window) (x0 y0 s : ℕ) : Type 0 where
+  pub after-left : w .left ≤ x0
+  pub after-top : w .top ≤ y0
+  pub column : x0 ≤ 1024
+  pub row : y0 ≤ 1024
+  pub rows-fit : Fits w64 (y0 - w .top + 1)
+  pub columns-fit : Fits w64 (x0 - w .left + 1)
+  pub row-place : Fits w64 ((y0 - w .top + 1) * s)
+  pub cell-place : Fits w64 ((y0 - w .top + 1) * s + (x0 - w .left + 1))
+
+first-cell : (pixel cell start x0 : ℕ) → pixel ≤ 8192 → cell ≡ pixel / 8 → start ≤ 1024 → x0 ≡ max cell start → (start ≤ x0) × (x0 ≤ 1024)
+first-cell pixel cell start x0 h e k f = (omega arith, omega arith)
+
+numbers-of : (w : Window) (x0 y0 s : ℕ) → s ≤ 1026 → (w .left ≤ x0) × (x0 ≤ 1024) → (w .top ≤ y0) × (y0 ≤ 1024) → BoxNumbers w x0 y0 s
+numbers-of w x0 y0 s h p q =
+    let k = product-most (y0 - w .top + 1) s (omega arith) h in
+    record {
+      after-left = p .0;
+      after-top = q .0;
+      column = p .1;
+      row = q .1;
+      rows-fit = omega (arith, q .1);
+      columns-fit = omega (arith, p .1);
+      row-place = omega (arith, k);
+      cell-place = omega (arith, k, p .1);
+    }
+
+pub box-numbers : {w : Window} {walk left top right bottom : ℕ} → Paints w walk → Pixels left top right bottom → (s column row x0 y0 : ℕ) → s ≡ w .width + 2 →
+    column ≡ left / 8 → x0 ≡ max column (w .left) → row ≡ top / 8 → y0 ≡ max row (w .top) → BoxNumbers w x0 y0 s
+box-numbers {w} {walk} {left} {top} {right} {bottom} p q s column row x0 y0 e f g h i =
+    numbers-of w x0 y0 s (omega (arith, e, p .columns)) (first-cell left column (w .left) x0 (q .from-left) f (omega (arith, p .columns)) g) (first-cell top row (w .top) y0 (q .from-top) h (omega (arith, p .rows)) i)
+
+-- one past the last painted column or row is not past the window's
+pub within : (cell end x1 : ℕ) → x1 ≡ min cell end → x1 ≤ end
+within cell end x1 e = omega arith
 
 -- the cells from (x0, y0) up to (x1, y1), in the window
 pub box-fits : {w : Window} {walk : ℕ} → Paints w walk → (s x0 y0 x1 y1 : ℕ) → s ≡ w .width + 2 → w .left ≤ x0 → x0 ≤ 1024 → w .top ≤ y0 → y0 ≤ 1024 →

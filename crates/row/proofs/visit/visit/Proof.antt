@@ -2,76 +2,81 @@
 use Prim.Native.Nat.{_-_, _*_}
 use native.Mathlib.Omega.{arith}
 use Rattle.row.specs.Visits.{empty, skipped}
-use Rattle.row.proofs.Windows.{feed-fits, row-fits, done-changed, done-same}
+use Rattle.row.proofs.Windows.{VisitNumbers, visit-numbers, row-fits, done-changed, done-same}
+use denote.Ref.{now}
 use borrow.Author.Needs.{needs}
 use Rattle.row.proofs.visit.visit.Statement.{statement}
 use Rattle.row.proofs.visit.visit.Tie as tie
 
+-- the numbers of the visit
+numbers : (c : tie.After-slice-known2) → VisitNumbers (c .before .before .before .before .args .stride) (c .before .before .before .before .args .own) (c .before .before .before .before .args .feed) (now (c .before .before .before .before .args .rows))
+numbers c = visit-numbers (c .before .before .before .before .pre .1) (omega arith) (omega arith) (omega arith) (omega arith)
+
 mul-a : tie.Need-mul-a
-mul-a c = search needs
+mul-a c = numbers c .twice
 
 sub-a : tie.Need-sub-a
-sub-a c = search needs
+sub-a c = numbers c .from-two
 
 mul-a-2 : tie.Need-mul-a-2
-mul-a-2 c = search needs
+mul-a-2 c = numbers c .first-bytes
 
 shared-slice-read-a : tie.Need-shared-slice-read-a
-shared-slice-read-a c = search needs
+shared-slice-read-a c = numbers (c .before) .first-in
 
 cast-a : tie.Need-cast-a
 cast-a c = omega (arith, c .shared-slice-known3 .given (2 * c .before .before .before .before .before .args .own - 2))
 
 mul-b : tie.Need-mul-b
-mul-b c = search needs
+mul-b c = numbers (c .before) .twice
 
 sub-b : tie.Need-sub-b
-sub-b c = search needs
+sub-b c = numbers (c .before) .from-one
 
 mul-b-2 : tie.Need-mul-b-2
-mul-b-2 c = search needs
+mul-b-2 c = numbers (c .before) .past-bytes
 
 shared-slice-read-b : tie.Need-shared-slice-read-b
-shared-slice-read-b c = search needs
+shared-slice-read-b c = numbers (c .before .before) .past-in
 
 cast-b : tie.Need-cast-b
-cast-b c = search needs
+cast-b c = numbers (c .before .before) .past
 
 returns : tie.Need-returns
 returns c = empty (c .if1 .taken)
 
 mul-version : tie.Need-mul-version
-mul-version c = search needs
+mul-version c = numbers (c .before .before .before) .feed-bytes
 
 slice-read-version : tie.Need-slice-read-version
-slice-read-version c = search needs
+slice-read-version c = c .before .before .before .before .before .before .before .before .pre .1 .version-feed
 
 mul-if2 : tie.Need-mul-if2
-mul-if2 c = search needs
+mul-if2 c = numbers (c .before .before .before .before) .own-bytes
 
 slice-read-if2 : tie.Need-slice-read-if2
-slice-read-if2 c = search needs
+slice-read-if2 c = c .before .before .before .before .before .before .before .before .before .pre .1 .pulled-own
 
 returns-2 : tie.Need-returns-2
 returns-2 c = skipped (c .before .before .before .if1 .left) (c .if2 .taken)
 
 mul-pulled : tie.Need-mul-pulled
-mul-pulled c = search needs
+mul-pulled c = numbers (c .before .before .before .before .before .before) .own-bytes
 
 slice-write-pulled : tie.Need-slice-write-pulled
-slice-write-pulled c = search needs
+slice-write-pulled c = c .before .before .before .before .before .before .before .before .before .before .pre .1 .pulled-own
 
 mul-first : tie.Need-mul-first
-mul-first c = search needs
+mul-first c = numbers (c .before .before .before .before .before .before) .own-row
 
 add-first : tie.Need-add-first
-add-first c = search needs
+add-first c = numbers (c .before .before .before .before .before .before) .own-cell (c .before .before .before .if1 .left)
 
 mul-feeding : tie.Need-mul-feeding
-mul-feeding c = omega (arith, feed-fits (c .before .before .before .before .before .before .before .before .before .before .pre .1), c .before .before .before .before .before .before .before .before .before .before)
+mul-feeding c = numbers (c .before .before .before .before .before .before) .feed-row
 
 add-feeding : tie.Need-add-feeding
-add-feeding c = omega (arith, feed-fits (c .before .before .before .before .before .before .before .before .before .before .pre .1), c .before .before .before .before .before .before .before .before .before .before)
+add-feeding c = numbers (c .before .before .before .before .before .before) .feed-cell (c .before .before .before .if1 .left)
 
 sub-relax : tie.Need-sub-relax
 sub-relax c = search needs
@@ -80,22 +85,22 @@ relax-requires : tie.Need-relax-requires
 relax-requires c κs = (c .before .before .before .before .before .before .before .before .before .before .before .pre .0, c .before .before .before .before .before .before .before .before .before .before .before .pre .1 .count, row-fits (c .before .before .before .before .before .before .before .before .before .before .before .pre .1) (c .before .before .before .before .if1 .left))
 
 mul-wrapping-add-u32 : tie.Need-mul-wrapping-add-u32
-mul-wrapping-add-u32 c = search needs
+mul-wrapping-add-u32 c = numbers (c .before .before .before .before .before .before .before .before .before .before) .own-bytes
 
 slice-read-wrapping-add-u32 : tie.Need-slice-read-wrapping-add-u32
-slice-read-wrapping-add-u32 c = search needs
+slice-read-wrapping-add-u32 c = c .before .before .before .before .before .before .before .before .before .before .before .before .before .before .before .pre .1 .version-own
 
 wrapping-add-u32-requires : tie.Need-wrapping-add-u32-requires
-wrapping-add-u32-requires c κs = search needs
+wrapping-add-u32-requires c κs = tt
 
 mul-versions : tie.Need-mul-versions
-mul-versions c = search needs
+mul-versions c = numbers (c .before .before .before .before .before .before .before .before .before .before .before .before) .own-bytes
 
 slice-write-versions : tie.Need-slice-write-versions
-slice-write-versions c = search needs
+slice-write-versions c = c .before .before .before .before .before .before .before .before .before .before .before .before .before .before .before .before .pre .1 .version-own
 
 same-length : tie.Need-same-length
-same-length c = search needs
+same-length c = c .before .before .before .before .relax .kept .0
 
 same-length-2 : tie.Need-same-length-2
 same-length-2 c = search needs
@@ -107,7 +112,7 @@ returns-3 : tie.Need-returns-3
 returns-3 c = done-changed (c .before .before .before .before .before .before .before .before .before .if1 .left) (c .before .before .before .before .before .before .if2 .left) (c .before .before .before .before .relax .ensures) _ _ (c .before .before .if3 .taken) (c .wrapping-add-u32 .ensures) (omega arith)
 
 same-length-4 : tie.Need-same-length-4
-same-length-4 c = search needs
+same-length-4 c = c .before .before .relax .kept .0
 
 same-length-5 : tie.Need-same-length-5
 same-length-5 c = search needs

@@ -10,7 +10,7 @@ use denote.Ref.{now}
 use borrow.Author.Needs.{sfits-of}
 use Rattle.window.specs.Fills.{entries}
 use Rattle.walkbytes.specs.Painting.{blockersPainted}
-use Rattle.walkbytes.proofs.Boxed.{clamped, blockers-none, blockers-more}
+use Rattle.walkbytes.proofs.Boxed.{FourPlaces, four-places, clamped, blockers-none, blockers-more}
 use Rattle.walkbytes.proofs.paint.paint.Statement.{statement}
 use Rattle.walkbytes.proofs.paint.paint.Tie as tie
 
@@ -24,59 +24,63 @@ abbrev μ-loop : tie.MeasureT-loop
 loop-holds : tie.Need-loop-holds Inv-loop μ-loop
 loop-holds c = (omega arith, refl, blockers-none _ _ _ _ _)
 
+-- the places of the turn's blocker
+places : (c : tie.In-loop Inv-loop μ-loop) → FourPlaces (c .before .loop .k) (length (now (c .before .before .before .args .blockers)))
+places c = four-places (c .before .loop .k) (length (now (c .before .before .before .args .blockers))) (omega arith) (omega arith)
+
 mul-clamp : tie.Need-mul-clamp Inv-loop μ-loop
-mul-clamp c = omega arith
+mul-clamp c = places (c .before) .first
 
 mul-clamp-2 : tie.Need-mul-clamp-2 Inv-loop μ-loop
-mul-clamp-2 c = omega arith
+mul-clamp-2 c = places (c .before) .first-bytes
 
 shared-slice-copy-out-clamp : tie.Need-shared-slice-copy-out-clamp Inv-loop μ-loop
-shared-slice-copy-out-clamp c = omega arith
+shared-slice-copy-out-clamp c = places (c .before) .first-in
 
 clamp-requires : tie.Need-clamp-requires Inv-loop μ-loop
 clamp-requires c κs = c .before .before .before .before .before .pre .1
 
 mul-clamp-3 : tie.Need-mul-clamp-3 Inv-loop μ-loop
-mul-clamp-3 c = omega arith
+mul-clamp-3 c = places (c .before .before .before) .first
 
 add-clamp : tie.Need-add-clamp Inv-loop μ-loop
-add-clamp c = omega arith
+add-clamp c = places (c .before .before .before) .second
 
 mul-clamp-4 : tie.Need-mul-clamp-4 Inv-loop μ-loop
-mul-clamp-4 c = omega arith
+mul-clamp-4 c = places (c .before .before .before) .second-bytes
 
 shared-slice-copy-out-clamp-2 : tie.Need-shared-slice-copy-out-clamp-2 Inv-loop μ-loop
-shared-slice-copy-out-clamp-2 c = omega arith
+shared-slice-copy-out-clamp-2 c = places (c .before .before .before) .second-in
 
 clamp-requires-2 : tie.Need-clamp-requires-2 Inv-loop μ-loop
 clamp-requires-2 c κs = c .before .before .before .before .before .before .before .pre .2
 
 mul-clamp-5 : tie.Need-mul-clamp-5 Inv-loop μ-loop
-mul-clamp-5 c = omega arith
+mul-clamp-5 c = places (c .before .before .before .before .before) .first
 
 add-clamp-2 : tie.Need-add-clamp-2 Inv-loop μ-loop
-add-clamp-2 c = omega arith
+add-clamp-2 c = places (c .before .before .before .before .before) .third
 
 mul-clamp-6 : tie.Need-mul-clamp-6 Inv-loop μ-loop
-mul-clamp-6 c = omega arith
+mul-clamp-6 c = places (c .before .before .before .before .before) .third-bytes
 
 shared-slice-copy-out-clamp-3 : tie.Need-shared-slice-copy-out-clamp-3 Inv-loop μ-loop
-shared-slice-copy-out-clamp-3 c = omega arith
+shared-slice-copy-out-clamp-3 c = places (c .before .before .before .before .before) .third-in
 
 clamp-requires-3 : tie.Need-clamp-requires-3 Inv-loop μ-loop
 clamp-requires-3 c κs = c .before .before .before .before .before .before .before .before .before .pre .1
 
 mul-clamp-7 : tie.Need-mul-clamp-7 Inv-loop μ-loop
-mul-clamp-7 c = omega arith
+mul-clamp-7 c = places (c .before .before .before .before .before .before .before) .first
 
 add-clamp-3 : tie.Need-add-clamp-3 Inv-loop μ-loop
-add-clamp-3 c = omega arith
+add-clamp-3 c = places (c .before .before .before .before .before .before .before) .fourth
 
 mul-clamp-8 : tie.Need-mul-clamp-8 Inv-loop μ-loop
-mul-clamp-8 c = omega arith
+mul-clamp-8 c = places (c .before .before .before .before .before .before .before) .fourth-bytes
 
 shared-slice-copy-out-clamp-4 : tie.Need-shared-slice-copy-out-clamp-4 Inv-loop μ-loop
-shared-slice-copy-out-clamp-4 c = omega arith
+shared-slice-copy-out-clamp-4 c = places (c .before .before .before .before .before .before .before) .fourth-in
 
 clamp-requires-4 : tie.Need-clamp-requires-4 Inv-loop μ-loop
 clamp-requires-4 c κs = c .before .before .before .before .before .before .before .before .before .before .before .pre .2

@@ -1,9 +1,15 @@
 -- `walkbytes::paint::paint_box`: nothing is painted of a rectangle without width or height; else the rows of its cells in the window, which lie in the buffer.
 use native.Mathlib.Omega.{arith}
-use Rattle.walkbytes.proofs.Boxed.{start-row, box-fits, box-thin, box-flat, box-done}
+use Rattle.walkbytes.proofs.Boxed.{BoxNumbers, box-numbers, within, box-fits, box-thin, box-flat, box-done}
 use borrow.Author.Needs.{needs}
 use Rattle.walkbytes.proofs.paint.paint_box.Statement.{statement}
 use Rattle.walkbytes.proofs.paint.paint_box.Tie as tie
+
+-- the numbers of the first painted cell
+numbers : (c : tie.After-most2) → BoxNumbers (c .before .before .before .before .before .before .before .before .args .window) (c .before .before .most .result) (c .most2 .result) (c .before .before .before .before .stride .result)
+numbers c =
+    let p = c .before .before .before .before .before .before .before .before .pre in
+    box-numbers (p .0) (p .1) _ _ _ _ _ (c .before .before .before .before .stride .ensures) (c .before .before .before .cell-of .ensures) (c .before .before .most .ensures) (c .before .cell-of2 .ensures) (c .most2 .ensures)
 
 returns : tie.Need-returns
 returns c = let a = c .before .before .args in box-thin (a .window) (a .left) (a .top) (a .right) (a .bottom) _ (c .if1 .taken)
@@ -15,98 +21,71 @@ stride-requires : tie.Need-stride-requires
 stride-requires c κs = search needs
 
 cell-of-requires : tie.Need-cell-of-requires
-cell-of-requires c κs = search needs
+cell-of-requires c κs = tt
 
 most-requires : tie.Need-most-requires
-most-requires c κs = search needs
+most-requires c κs = tt
 
 cell-of-requires-2 : tie.Need-cell-of-requires-2
-cell-of-requires-2 c κs = search needs
+cell-of-requires-2 c κs = tt
 
 most-requires-2 : tie.Need-most-requires-2
-most-requires-2 c κs = search needs
+most-requires-2 c κs = tt
 
 cell-past-requires : tie.Need-cell-past-requires
-cell-past-requires c κs = search needs
+cell-past-requires c κs = c .before .before .before .before .before .before .before .before .pre .1 .to-right
 
 add-least : tie.Need-add-least
-add-least c = search needs
+add-least c = omega (arith, c .before .before .before .before .before .before .before .before .before .before .pre .0 .columns)
 
 least-requires : tie.Need-least-requires
-least-requires c κs = search needs
+least-requires c κs = tt
 
 cell-past-requires-2 : tie.Need-cell-past-requires-2
-cell-past-requires-2 c κs = search needs
+cell-past-requires-2 c κs = c .before .before .before .before .before .before .before .before .before .before .before .pre .1 .to-bottom
 
 add-least-2 : tie.Need-add-least-2
-add-least-2 c = search needs
+add-least-2 c = omega (arith, c .before .before .before .before .before .before .before .before .before .before .before .before .before .pre .0 .rows)
 
 least-requires-2 : tie.Need-least-requires-2
-least-requires-2 c κs = search needs
+least-requires-2 c κs = tt
 
 sub-first : tie.Need-sub-first
-sub-first c = search needs
+sub-first c = numbers (c .before .before .before .before .before .before .before) .after-top
 
 add-first : tie.Need-add-first
-add-first c = search needs
+add-first c = numbers (c .before .before .before .before .before .before .before) .rows-fit
 
 mul-first : tie.Need-mul-first
-mul-first c =
-    let y0 = c .before .before .before .before .before .before .before in
-    let s = y0 .before .before .before .before in
-    let p = s .before .before .before .before .pre in
-    omega (arith, start-row (p .0) (p .1) (y0 .most2 .ensures) (y0 .before .cell-of2 .ensures) (s .stride .ensures))
+mul-first c = numbers (c .before .before .before .before .before .before .before) .row-place
 
 sub-first-2 : tie.Need-sub-first-2
-sub-first-2 c = search needs
+sub-first-2 c = numbers (c .before .before .before .before .before .before .before .before) .after-left
 
 add-first-2 : tie.Need-add-first-2
-add-first-2 c = search needs
+add-first-2 c = numbers (c .before .before .before .before .before .before .before .before) .columns-fit
 
 add-first-3 : tie.Need-add-first-3
-add-first-3 c =
-    let y0 = c .before .before .before .before .before .before .before .before in
-    let x0 = y0 .before .before in
-    let s = x0 .before .before in
-    let p = s .before .before .before .before .pre in
-    omega (
-      arith,
-      start-row (p .0) (p .1) (y0 .most2 .ensures) (y0 .before .cell-of2 .ensures) (s .stride .ensures),
-      p .1 .from-left,
-      p .0 .columns,
-      x0 .most .ensures,
-      x0 .before .cell-of .ensures,
-    )
+add-first-3 c = numbers (c .before .before .before .before .before .before .before .before) .cell-place
 
 past-requires : tie.Need-past-requires
-past-requires c κs = search needs
+past-requires c κs = tt
 
 past-requires-2 : tie.Need-past-requires-2
-past-requires-2 c κs = search needs
+past-requires-2 c κs = tt
 
 paint-rows-requires : tie.Need-paint-rows-requires
 paint-rows-requires c κs =
     let y1 = c .before .before .before .before .before in
     let x1 = y1 .before .before .before in
     let y0 = x1 .before .before .before in
-    let x0 = y0 .before .before in
-    let s = x0 .before .before in
-    let p = s .before .before .before .before .pre in
-    let i = x0 .most .ensures in
-    let j = x0 .before .cell-of .ensures in
-    let k = y0 .most2 .ensures in
-    let l = y0 .before .cell-of2 .ensures in
-    let m = x1 .least .ensures in
-    let n = y1 .least2 .ensures in
-    let g = p .1 .from-left in
-    let h = p .1 .from-top in
-    let q = p .0 .columns in
-    let r = p .0 .rows in
+    let n = numbers y0 in
+    let p = y0 .before .before .before .before .before .before .before .before .pre in
     rw (c .before .past .ensures, c .past2 .ensures)
-    (box-fits (p .0) _ _ _ _ _ (s .stride .ensures) (omega arith) (omega arith) (omega arith) (omega arith) (omega arith) (omega arith))
+    (box-fits (p .0) _ _ _ _ _ (y0 .before .before .before .before .stride .ensures) (n .after-left) (n .column) (n .after-top) (n .row) (within _ _ _ (x1 .least .ensures)) (within _ _ _ (y1 .least2 .ensures)))
 
 same-length : tie.Need-same-length
-same-length c = search needs
+same-length c = c .before .before .paint-rows .kept .0
 
 returns-3 : tie.Need-returns-3
 returns-3 c =
