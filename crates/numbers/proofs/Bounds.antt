@@ -13,7 +13,7 @@ use Rattle.cells.specs.Boxes.{reach, InMap}
 use Rattle.rings.proofs.Sources.{sources-in-map}
 use Rattle.judge.proofs.Judging.{passes, accepted-parts}
 use Rattle.window.proofs.Edges.{window-in-map}
-use Rattle.plan.specs.Verdicts.{restTests}
+use Rattle.refusals.specs.Verdicts.{restTests}
 use Rattle.plan.proofs.Verdicts.{restPart, rest-found}
 use Rattle.numbers.specs.Numbers.{InU32}
 

@@ -23,7 +23,7 @@ use Rattle.plan.specs.declared.Lent.{Lent}
 use Rattle.plan.specs.declared.Plan.{Plan}
 use Rattle.plan.specs.declared.Plan.the-variants.{Refused, Nothing, Make}
 use Rattle.plan.specs.declared.site.Site.{Site}
-use Rattle.plan.specs.Verdicts.{restTests}
+use Rattle.refusals.specs.Verdicts.{restTests}
 use Rattle.plan.specs.Sites.{GoodSite}
 use Rattle.plan.specs.Plans.{enough, Accepted, SiteOf, sitePlan, Lengths, PlanOf}
 use Rattle.plan.proofs.Verdicts.{mapPart, restPart, roomPart, map-refuses, rest-refuses, room-decides, map-found, rest-found}

@@ -14,7 +14,7 @@ use Rattle.walkgraph.proofs.Lists.{first-from}
 use Rattle.cells.proofs.Bools.{neither}
 use Rattle.judge.proofs.Accepted.{Grid, grid, lanes, Fours, fours, Span, span}
 use Rattle.judge.proofs.Judging.{Before, no-tests, one-test, accepted-parts}
-use Rattle.plan.specs.Verdicts.{mapTests, restTests}
+use Rattle.refusals.specs.Verdicts.{mapTests, restTests}
 
 -- the two parts for an input, and what is left where both accept
 abbrev pub mapPart : FieldInput → Verdict → Verdict

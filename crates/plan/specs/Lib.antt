@@ -1,4 +1,3 @@
--- The field call's refusals in two parts, the site of an accepted call, and its plan.
-pub mod Verdicts
+-- The site of an accepted field call, and its plan.
 pub mod Sites
 pub mod Plans

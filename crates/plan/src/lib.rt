@@ -1,10 +1,10 @@
 // What a call leads to: a refusal, nothing, or a field to make. From lengths and shared slices alone.
-pub mod order;
 pub mod site;
 
 use crate::site::Site;
 use cells::boxes::CellBox;
 use judge::verdict::Verdict;
+use refusals;
 use rings::ring;
 use window::record;
 use window::record::Window;
@@ -121,11 +121,11 @@ pub fn plan_of(
 ) -> Plan
     ensures { λ r. ⌜ PlanOf (inputOf width height (now (cells .entry)) lanes (now (blockers .entry)) (now (resources .entry)) (corners left top right bottom)) lent r ⌝ }
 {
-    let map = order::judge_map(width, height, cells, lanes, resources);
+    let map = refusals::judge_map(width, height, cells, lanes, resources);
     if let Verdict::Refused { number, place } = map {
         return Plan::Refused { number, place };
     }
-    let rest = order::judge_rest(width, height, blockers, resources, left, top, right, bottom);
+    let rest = refusals::judge_rest(width, height, blockers, resources, left, top, right, bottom);
     if let Verdict::Refused { number, place } = rest {
         return Plan::Refused { number, place };
     }

@@ -1,4 +1,4 @@
--- `plan::order::judge_rest`: its tests are those of the table, in its order.
+-- `refusals::judge_rest`: its tests are those of the table, in its order.
 use mathlib.Core.Path.{_≡_, refl, sym}
 use mathlib.Core.Bool.{true, false, not}
 use Prim.Native.Nat.{_/_}
@@ -10,9 +10,9 @@ use Rattle.walkgraph.specs.Refusals.{judge, firstBadResource, badFours, badSpan
 use Rattle.judge.specs.Verdicts.{verdictOf}
 use Rattle.judge.proofs.Judging.{refuses, passes, found-bad, found-good}
 use Rattle.judge.proofs.Spans.{span-told}
-use Rattle.plan.specs.Verdicts.{restTests}
-use Rattle.plan.proofs.order.judge_rest.Statement.{statement}
-use Rattle.plan.proofs.order.judge_rest.Tie as tie
+use Rattle.refusals.specs.Verdicts.{restTests}
+use Rattle.refusals.proofs.judge_rest.Statement.{statement}
+use Rattle.refusals.proofs.judge_rest.Tie as tie
 
 accepted-requires : tie.Need-accepted-requires
 accepted-requires c κs = search needs

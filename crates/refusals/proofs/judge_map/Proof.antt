@@ -1,13 +1,13 @@
--- `plan::order::judge_map`: its tests are those of the table, in its order.
+-- `refusals::judge_map`: its tests are those of the table, in its order.
 use mathlib.Core.Path.{_≡_, refl}
 use mathlib.Core.Bool.{false}
 use borrow.Author.Needs.{needs}
 use Rattle.walkgraph.specs.Refusals.{badGrid, badLanes}
 use Rattle.judge.specs.Verdicts.{verdictOf}
 use Rattle.judge.proofs.Judging.{refuses, passes, found-bad, found-good}
-use Rattle.plan.specs.Verdicts.{mapTests}
-use Rattle.plan.proofs.order.judge_map.Statement.{statement}
-use Rattle.plan.proofs.order.judge_map.Tie as tie
+use Rattle.refusals.specs.Verdicts.{mapTests}
+use Rattle.refusals.proofs.judge_map.Statement.{statement}
+use Rattle.refusals.proofs.judge_map.Tie as tie
 
 grid-ok-requires : tie.Need-grid-ok-requires
 grid-ok-requires c κs = search needs

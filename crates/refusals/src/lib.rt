@@ -9,7 +9,7 @@ ghost use lib.ListN.{length};
 ghost use Rattle.walkgraph.specs.Refusals.{accepted};
 ghost use Rattle.rings.specs.Rings.{corners};
 ghost use Rattle.judge.specs.Verdicts.{verdictOf};
-ghost use Rattle.plan.specs.Verdicts.{mapTests, restTests};
+ghost use Rattle.refusals.specs.Verdicts.{mapTests, restTests};
 
 // Refusals 1 to 3: the map, the lane count, the number of resources.
 pub fn judge_map(width: u32, height: u32, cells: &[u8], lanes: u32, resources: &[i32]) -> Verdict
