@@ -1,8 +1,7 @@
 -- `rings::ring::ring_of`: after both sides are accepted its four pixels are natural numbers.
-use mathlib.Core.Path.{_≡_, sym, _∙_}
+use mathlib.Core.Path.{_≡_, sym, _∙_, ap}
 use mathlib.Core.Bool.{Bool, true, false, not}
-use Prim.Native.Nat.{ℕ}
-use borrow.Author.Needs.{needs}
+use Prim.Native.Nat.{ℕ, _+_, _*_, _-_, _/_, _≤_, _<_, min}
 use borrow.Author.Tests.{not-true, not-false}
 use native.Mathlib.Omega.{arith}
 use lib.IntN.{ℤ}
@@ -28,6 +27,25 @@ module _ (size : ℕ) (low high : ℤ) (f : SFits w32 low) (g : SFits w32 high) 
 
   accepted : not r ≡ false → badSide size low high ≡ false
   accepted t = not-true (badSide size low high) (sym told ∙ not-false r t)
+
+-- a cell by the pixel that is cast: of a low edge and of a high one, the one before it, the one after it, and that it is on a map
+cell-is : {cell pixel n : ℕ} → cell ≡ pixel / 8 → pixel ≡ n → cell ≡ n / 8
+cell-is e f = e ∙ ap (λ (v : ℕ). v / 8) f
+
+last-cell-is : {cell pixel n : ℕ} → cell ≡ (pixel - 1) / 8 → pixel ≡ n → cell ≡ (n - 1) / 8
+last-cell-is e f = e ∙ ap (λ (v : ℕ). (v - 1) / 8) f
+
+before-is : {edge cell n : ℕ} → edge ≡ cell - 1 → cell ≡ n → edge ≡ n - 1
+before-is e f = e ∙ ap (λ (v : ℕ). v - 1) f
+
+after-is : {edge cell n : ℕ} (size : ℕ) → edge ≡ min (size - 1) (cell + 1) → cell ≡ n → edge ≡ min (size - 1) (n + 1)
+after-is size e f = e ∙ ap (λ (v : ℕ). min (size - 1) (v + 1)) f
+
+some-pixel : {pixel low high : ℕ} → pixel ≡ high → low < high → 1 ≤ pixel
+some-pixel e h = omega arith
+
+last-in : {cell pixel low high size : ℕ} → cell ≡ (pixel - 1) / 8 → pixel ≡ high → low < high → high ≤ 8 * size → size ≤ 1024 → (cell ≤ 1024) × (1 ≤ size)
+last-in e f g h k = (omega arith, omega arith)
 
 spans-requires : tie.Need-spans-requires
 spans-requires c κs = c .pre .0
@@ -67,13 +85,13 @@ cast-cell-of : tie.Need-cast-cell-of
 cast-cell-of c = let b = c .before .before .before .before in may-cast (b .args .left) (b .fits .left) _ (across (c .before .before) .low-is)
 
 cell-of-requires : tie.Need-cell-of-requires
-cell-of-requires c κs = search needs
+cell-of-requires c κs = tt
 
 cast-cell-of-2 : tie.Need-cast-cell-of-2
 cast-cell-of-2 c = let b = c .before .before .before .before .before in may-cast (b .args .top) (b .fits .top) _ (along (c .before) .low-is)
 
 cell-of-requires-2 : tie.Need-cell-of-requires-2
-cell-of-requires-2 c κs = search needs
+cell-of-requires-2 c κs = tt
 
 cast-cell-of-3 : tie.Need-cast-cell-of-3
 cast-cell-of-3 c = let b = c .before .before .before .before .before .before in may-cast (b .args .right) (b .fits .right) _ (across (c .before .before .before .before) .high-is)
@@ -82,10 +100,10 @@ sub-cell-of : tie.Need-sub-cell-of
 sub-cell-of c =
     let b = c .before .before .before .before .before .before in
     let s = across (c .before .before .before .before) in
-    omega (arith, cast (b .args .right) (b .fits .right) _ (s .high-is))
+    some-pixel (cast (b .args .right) (b .fits .right) _ (s .high-is)) (s .across)
 
 cell-of-requires-3 : tie.Need-cell-of-requires-3
-cell-of-requires-3 c κs = search needs
+cell-of-requires-3 c κs = tt
 
 cast-cell-of-4 : tie.Need-cast-cell-of-4
 cast-cell-of-4 c = let b = c .before .before .before .before .before .before .before in may-cast (b .args .bottom) (b .fits .bottom) _ (along (c .before .before .before) .high-is)
@@ -94,45 +112,41 @@ sub-cell-of-2 : tie.Need-sub-cell-of-2
 sub-cell-of-2 c =
     let b = c .before .before .before .before .before .before .before in
     let s = along (c .before .before .before) in
-    omega (arith, cast (b .args .bottom) (b .fits .bottom) _ (s .high-is))
+    some-pixel (cast (b .args .bottom) (b .fits .bottom) _ (s .high-is)) (s .across)
 
 cell-of-requires-4 : tie.Need-cell-of-requires-4
-cell-of-requires-4 c κs = search needs
+cell-of-requires-4 c κs = tt
 
 before-requires : tie.Need-before-requires
-before-requires c κs = search needs
+before-requires c κs = tt
 
 before-requires-2 : tie.Need-before-requires-2
-before-requires-2 c κs = search needs
+before-requires-2 c κs = tt
 
 after-requires : tie.Need-after-requires
 after-requires c κs =
-    let b = c .before .before .before .before .before .before .before .before .before .before in
     let s = across (c .before .before .before .before .before .before .before .before) in
-    let e = cast (b .args .right) (b .fits .right) _ (s .high-is) in
-    (omega arith, omega arith)
+    last-in (c .before .before .before .cell-of3 .ensures) (cast (c .before .before .before .before .before .before .before .before .before .before .args .right) (c .before .before .before .before .before .before .before .before .before .before .fits .right) _ (s .high-is)) (s .across) (s .wide) (c .before .before .before .before .before .before .before .before .before .before .pre .0)
 
 after-requires-2 : tie.Need-after-requires-2
 after-requires-2 c κs =
-    let b = c .before .before .before .before .before .before .before .before .before .before .before in
     let s = along (c .before .before .before .before .before .before .before) in
-    let e = cast (b .args .bottom) (b .fits .bottom) _ (s .high-is) in
-    (omega arith, omega arith)
+    last-in (c .before .before .before .cell-of4 .ensures) (cast (c .before .before .before .before .before .before .before .before .before .before .before .args .bottom) (c .before .before .before .before .before .before .before .before .before .before .before .fits .bottom) _ (s .high-is)) (s .across) (s .wide) (c .before .before .before .before .before .before .before .before .before .before .before .pre .1)
 
 returns-3 : tie.Need-returns-3
 unfolding RingOf badResource ringBox body
 returns-3 c =
     let b = c .before .before .before .before .before .before .before .before .before .before .before .before in
-    let s = across (c .before .before .before .before .before .before .before .before .before .before) in
-    let t = along (c .before .before .before .before .before .before .before .before) in
-    let left = cast (b .args .left) (b .fits .left) _ (s .low-is) in
-    let top = cast (b .args .top) (b .fits .top) _ (t .low-is) in
-    let right = cast (b .args .right) (b .fits .right) _ (s .high-is) in
-    let bottom = cast (b .args .bottom) (b .fits .bottom) _ (t .high-is) in
+    let across-place = c .before .before .before .before .before .before .before .before .before .before in
+    let along-place = c .before .before .before .before .before .before .before .before in
+    let left = cell-is (c .before .before .before .before .before .before .before .cell-of .ensures) (cast (b .args .left) (b .fits .left) _ (across across-place .low-is)) in
+    let top = cell-is (c .before .before .before .before .before .before .cell-of2 .ensures) (cast (b .args .top) (b .fits .top) _ (along along-place .low-is)) in
+    let right = last-cell-is (c .before .before .before .before .before .cell-of3 .ensures) (cast (b .args .right) (b .fits .right) _ (across across-place .high-is)) in
+    let bottom = last-cell-is (c .before .before .before .before .cell-of4 .ensures) (cast (b .args .bottom) (b .fits .bottom) _ (along along-place .high-is)) in
     record {
-      good = rw (good-across (c .before .before .before .before .before .before .before .before .before .before), good-along (c .before .before .before .before .before .before .before .before));
-      ring = same-box (omega arith) (omega arith) (omega arith) (omega arith);
-      body = same-box (omega arith) (omega arith) (omega arith) (omega arith);
+      good = rw (good-across across-place, good-along along-place);
+      ring = same-box (before-is (c .before .before .before .before2 .ensures) left) (before-is (c .before .before .before3 .ensures) top) (after-is (b .args .width) (c .before .after .ensures) right) (after-is (b .args .height) (c .after2 .ensures) bottom);
+      body = same-box left top right bottom;
     }
 
 pub ring-of-spec : {M : Type 1} → statement M
