@@ -61,15 +61,6 @@ started-more F a b c h = λ i j. same j i
     same : (j : ℕ) → startedLevel (startedLevel (F j) (a j)) (b j) ≡ startedLevel (F j) (c j)
     same j = rw (h j) (started-twice (F j) (a j) (b j))
 
--- ---- tests
-pub and-no : (b : Bool) → false ≡ (b && false)
-and-no true = refl
-and-no false = refl
-
-pub and-yes : (b : Bool) → b ≡ (b && true)
-and-yes true = refl
-and-yes false = refl
-
 -- ---- one level more
 pub started-set : (d : List ℤ) (i : ℕ) (v : ℤ) (hit : Bool) → i < length d → level v ≡ startedLevel (levelAt d i) hit → levelAt (set d i v) ≡ startedLevels (levelAt d) (λ j. eqb j i && hit)
 unfolding startedLevels

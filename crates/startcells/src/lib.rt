@@ -1,13 +1,11 @@
 // The lanes of cells before the first sweep: unreachable, or half cost 0 in the walkable cells of a stretch that are not in the body.
 use cells::boxes::CellBox;
 use lane::value;
+use ringcell;
 ghost use mathlib.Core.Path.{_≡_};
-ghost use mathlib.Core.Bool.{not, _&&_};
 ghost use Prim.Native.Nat.{ℕ, _≤_};
 ghost use lib.ListN.{length};
-ghost use lib.Dec.{eqb, leb};
 ghost use Rattle.walkgraph.specs.Lists.{placed};
-ghost use Rattle.walkgraph.specs.Map.{inBox};
 ghost use Rattle.lane.specs.Levels.{levelAt};
 ghost use Rattle.cells.specs.Boxes.{boxOf};
 ghost use Rattle.startcells.specs.Hits.{startedLevels, cellsHit, Cells};
@@ -20,36 +18,6 @@ pub fn unreachable(lanes: &mut [i16], count: usize)
     for k in 0..count {
         lanes[k] = 32767;
     }
-}
-
-// Whether a value is in an interval, ends included.
-pub fn holds(low: usize, high: usize, value: usize) -> bool
-    ensures { λ r. ⌜ r ≡ (leb low value && leb value high) ⌝ }
-{
-    if value < low {
-        return false;
-    }
-    value <= high
-}
-
-// Whether a box covers a cell.
-pub fn covers(body: CellBox, x: usize, y: usize) -> bool
-    ensures { λ r. ⌜ r ≡ inBox (boxOf body) x y ⌝ }
-{
-    if !holds(body.left, body.right, x) {
-        return false;
-    }
-    holds(body.top, body.bottom, y)
-}
-
-// Whether a cell of the ring box starts: walkable, and not in the body.
-pub fn starts(walk: u8, covered: bool) -> bool
-    ensures { λ r. ⌜ r ≡ (eqb walk 1 && not covered) ⌝ }
-{
-    if covered {
-        return false;
-    }
-    walk == 1
 }
 
 // Starts one lane in count cells of row y, from column x on; place is that of the first among the window's cells.
@@ -69,6 +37,9 @@ pub fn start_cells(
 {
     for n in 0..count {
         let at = (place + n) * each + lane;
-        lanes[at] = value::started(lanes[at], starts(walk[place + n], covers(body, x + n, y)));
+        lanes[at] = value::started(
+            lanes[at],
+            ringcell::starts(walk[place + n], ringcell::covers(body, x + n, y)),
+        );
     }
 }

@@ -1,20 +1,19 @@
--- `startcells::covers`: by the column, then by the row.
+-- `ringcell::covers`: by the column, then by the row.
 use mathlib.Core.Path.{sym, _∙_}
-use borrow.Author.Needs.{needs}
 use borrow.Author.Tests.{not-true, not-false}
 use Rattle.walkgraph.specs.Map.{inBox}
-use Rattle.startcells.proofs.covers.Statement.{statement}
-use Rattle.startcells.proofs.covers.Tie as tie
+use Rattle.ringcell.proofs.covers.Statement.{statement}
+use Rattle.ringcell.proofs.covers.Tie as tie
 
 holds-requires : tie.Need-holds-requires
-holds-requires c κs = search needs
+holds-requires c κs = tt
 
 returns : tie.Need-returns
 unfolding inBox
 returns c = rw (sym (c .before .holds .ensures) ∙ not-true (c .before .holds .result) (c .if1 .taken))
 
 holds-requires-2 : tie.Need-holds-requires-2
-holds-requires-2 c κs = search needs
+holds-requires-2 c κs = tt
 
 returns-2 : tie.Need-returns-2
 unfolding inBox

@@ -1,9 +1,9 @@
--- `startcells::holds`: by its two tests.
+-- `ringcell::holds`: by its two tests.
 use Prim.Native.Nat.{_≤_, _<_}
 use native.Mathlib.Omega.{arith}
 use borrow.Author.Tests.{le-leb, lt-leb}
-use Rattle.startcells.proofs.holds.Statement.{statement}
-use Rattle.startcells.proofs.holds.Tie as tie
+use Rattle.ringcell.proofs.holds.Statement.{statement}
+use Rattle.ringcell.proofs.holds.Tie as tie
 
 returns : tie.Need-returns
 returns c = let a = c .before .args in let h : a .value < a .low = omega arith in rw (lt-leb (a .low) (a .value) h)

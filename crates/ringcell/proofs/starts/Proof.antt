@@ -1,10 +1,19 @@
--- `startcells::starts`: by the body, then by the walk byte.
-use mathlib.Core.Path.{ap, _∙_}
+-- `ringcell::starts`: by the body, then by the walk byte.
+use mathlib.Core.Path.{_≡_, refl, ap, _∙_}
+use mathlib.Core.Bool.{Bool, true, false, _&&_}
 use native.Mathlib.Omega.{arith}
 use lib.Dec.{eqb}
-use Rattle.startcells.proofs.Some.{and-no, and-yes}
-use Rattle.startcells.proofs.starts.Statement.{statement}
-use Rattle.startcells.proofs.starts.Tie as tie
+use Rattle.ringcell.proofs.starts.Statement.{statement}
+use Rattle.ringcell.proofs.starts.Tie as tie
+
+-- a test and one that is known
+and-no : (b : Bool) → false ≡ (b && false)
+and-no true = refl
+and-no false = refl
+
+and-yes : (b : Bool) → b ≡ (b && true)
+and-yes true = refl
+and-yes false = refl
 
 returns : tie.Need-returns
 returns c = rw (c .if1 .taken) (and-no (eqb (c .before .args .walk) 1))

@@ -69,10 +69,10 @@ add-covers : tie.Need-add-covers Inv-loop μ-loop
 add-covers c = omega (arith, turn-column (c .before .before))
 
 covers-requires : tie.Need-covers-requires Inv-loop μ-loop
-covers-requires c κs = search needs
+covers-requires c κs = tt
 
 starts-requires : tie.Need-starts-requires Inv-loop μ-loop
-starts-requires c κs = search needs
+starts-requires c κs = tt
 
 started-requires : tie.Need-started-requires Inv-loop μ-loop
 started-requires c κs = search needs
