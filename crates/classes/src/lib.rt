@@ -61,8 +61,7 @@ pub fn numbers(
     ranks: &mut [u8],
     answers: &mut [u16],
 ) -> usize
-    requires { ⌜ MaySeed (inputOf width height (now cells) (now indices) (now ends)) (now states) (now queue) (now parents) (now ranks)
-        × (length (now answers) ≡ length (now ends)) ⌝ }
+    requires { ⌜ MaySeed (inputOf width height (now cells) (now indices) (now ends)) (now states) (now queue) (now parents) (now ranks) × (length (now answers) ≡ length (now ends)) ⌝ }
     ensures { λ count. ⌜ FieldsFound (inputOf width height (now (cells .entry)) (now (indices .entry)) (now (ends .entry)))
         (now (states .exit)) (now (queue .exit)) (now (parents .exit)) (now (ranks .exit)) (now (answers .exit)) count ⌝ }
 {

@@ -39,11 +39,9 @@ pub fn visit(
     fresh: bool,
     changed: bool,
 ) -> bool
-    requires { ⌜ Gates (now gates) × VisitFits «lane_count» stride own feed (now rows)
-        (length (now lanes)) (length (now flags)) (length (now versions)) (length (now pulled)) ⌝ }
+    requires { ⌜ Gates (now gates) × VisitFits «lane_count» stride own feed (now rows) (length (now lanes)) (length (now flags)) (length (now versions)) (length (now pulled)) ⌝ }
     ensures { λ r. ⌜ Visited (groundOf «lane_count» stride (now (flags .entry)) (now (rows .entry))) down fresh own feed
-        (stateOf (now (lanes .entry)) (now (versions .entry)) (now (pulled .entry)) changed)
-        (stateOf (now (lanes .exit)) (now (versions .exit)) (now (pulled .exit)) r) ⌝ }
+        (stateOf (now (lanes .entry)) (now (versions .entry)) (now (pulled .entry)) changed) (stateOf (now (lanes .exit)) (now (versions .exit)) (now (pulled .exit)) r) ⌝ }
 {
     let a = rows[2 * own - 2] as usize;
     let b = rows[2 * own - 1] as usize;

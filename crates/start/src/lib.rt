@@ -24,8 +24,7 @@ pub fn start_lane(
     lane: usize,
 )
     requires { ⌜ LaneRoom window (length (now lanes)) (length (now walk)) (now rows) width height (now resources) lane ⌝ }
-    ensures { λ _. ⌜ levelAt (now (lanes .exit)) ≡ startedLevels (levelAt (now (lanes .entry)))
-        (ringHit window (now (walk .entry)) (now (rows .entry))
+    ensures { λ _. ⌜ levelAt (now (lanes .exit)) ≡ startedLevels (levelAt (now (lanes .entry))) (ringHit window (now (walk .entry)) (now (rows .entry))
         (ringBox width height (rectangle (now (resources .entry)) lane)) (body (rectangle (now (resources .entry)) lane)) lane) ⌝ }
 {
     match ring::ring_at(resources, lane, width, height) {

@@ -23,8 +23,7 @@ pub fn sweep(
 ) -> bool
     requires { ⌜ SweepFits «lane_count» stride height (now rows) (length (now lanes)) (length (now flags)) (length (now versions)) (length (now pulled)) ⌝ }
     ensures { λ r. ⌜ Turns (groundOf «lane_count» stride (now (flags .entry)) (now (rows .entry))) down fresh height
-        (stateOf (now (lanes .entry)) (now (versions .entry)) (now (pulled .entry)) false) height
-        (stateOf (now (lanes .exit)) (now (versions .exit)) (now (pulled .exit)) r) ⌝ }
+        (stateOf (now (lanes .entry)) (now (versions .entry)) (now (pulled .entry)) false) height (stateOf (now (lanes .exit)) (now (versions .exit)) (now (pulled .exit)) r) ⌝ }
 {
     let gates = gate::gates();
     let mut changed = false;
@@ -61,8 +60,7 @@ pub fn alternate(
     height: usize,
     number: usize,
 ) -> bool
-    requires { ⌜ RunFits «lane_count» stride height (now rows) (length (now lanes)) (length (now flags)) (length (now versions))
-        (length (now «pulled_down»)) (length (now «pulled_up»)) ⌝ }
+    requires { ⌜ RunFits «lane_count» stride height (now rows) (length (now lanes)) (length (now flags)) (length (now versions)) (length (now «pulled_down»)) (length (now «pulled_up»)) ⌝ }
     ensures { λ r. ⌜ OneSweep (groundOf «lane_count» stride (now (flags .entry)) (now (rows .entry))) height number
         (runOf (now (lanes .entry)) (now (versions .entry)) (now («pulled_down» .entry)) (now («pulled_up» .entry)))
         (runOf (now (lanes .exit)) (now (versions .exit)) (now («pulled_down» .exit)) (now («pulled_up» .exit))) r ⌝ }
