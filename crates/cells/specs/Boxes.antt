@@ -10,6 +10,7 @@ use Rattle.cells.specs.declared.boxes.CellBox.{CellBox}
 abbrev pub reach : ℕ
 reach = 96
 
+-- a box of the code as a box of the definitions
 abbrev pub boxOf : CellBox → Box
 boxOf b = record { left = b .left; top = b .top; right = b .right; bottom = b .bottom }
 

@@ -40,6 +40,7 @@ pub data Drawing (input : FieldInput) : List ℕ → Type 0 where
 
 -- ---- on a page
 
+-- the sheet of a room, or its refusal, put on a page
 pub record PutsDrawing (input : FieldInput) (before after : List ℕ) (end : ℕ) : Type 0 where
   pub text : List ℕ
   pub drawing : Drawing input text

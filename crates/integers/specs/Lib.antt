@@ -1,1 +1,2 @@
+-- The code's answers as what was found.
 pub mod Answers

@@ -25,6 +25,7 @@ insideGaps w g x = insideInRow reach (boxOf (g .sources)) (g .source) (boxOf (g 
 abbrev pub firstOf : Window → (ℕ → Bool) → ℕ
 firstOf w test = firstFrom test 1 (w .width)
 
+-- one past its last inside column
 abbrev pub pastOf : Window → (ℕ → Bool) → ℕ
 pastOf w test = pastLast test (w .width + 1) (w .width)
 

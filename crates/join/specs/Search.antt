@@ -19,6 +19,7 @@ use Rattle.picks.specs.Listed.{Table}
 unfoldable pub isLabel : ℕ → Bool
 isLabel state = ltb 0 state && ltb state 65535
 
+-- the states and the queue as the state of the two-sided search
 abbrev pub stateOf : ℕ → List ℕ → List ℕ → ℕ → State
 stateOf width states queue tail =
     record {
@@ -41,6 +42,7 @@ pub record Seeds (width height : ℕ) (states : List ℕ) (r x y : ℕ) : Type 0
   pub owner : ownerOf (of states (y * width + x)) ≡ r
   pub depth : depthOf (of states (y * width + x)) ≡ 0
 
+-- "linked if a walk of at most 32 steps joins a walkable access cell of one to one of the other", of the labelled access cells
 abbrev pub Links : ℕ → ℕ → List ℕ → ℕ → ℕ → Type 0
 Links width height states = Linked (Walks width height states) (Seeds width height states)
 

@@ -2,9 +2,11 @@
 use mathlib.Core.Path.{_≡_}
 use Prim.Native.Nat.{ℕ, _+_, _*_, _-_, _/_, _%_, _≤_}
 
+-- the resource of a label, from 0
 abbrev pub ownerOf : ℕ → ℕ
 ownerOf state = state / 32 - 1
 
+-- how many steps the cell is from an access cell of it
 abbrev pub depthOf : ℕ → ℕ
 depthOf state = state % 32
 

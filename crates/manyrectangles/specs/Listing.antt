@@ -9,6 +9,7 @@ use Rattle.walkgraph.specs.Refusals.{badGrid, badFours, firstBadResource}
 use Rattle.manyrectangles.specs.AllCells.{cellsOf, allCells}
 use Rattle.manyrectangles.specs.Lent.{ListsLent, listedIn}
 
+-- both lent buffers
 abbrev pub lent : List ℕ → List ℕ → ListsLent
 lent indices ends = record { indices = indices; ends = ends }
 

@@ -53,6 +53,7 @@ unfoldable pub listedNumbers : access.AccessAnswer → CountAnswer
 listedNumbers (access.refusal number place) = refusedNumbers number place
 listedNumbers (access.listed count) = countedNumbers count
 
+-- its numbers are u32s
 unfoldable pub ListedInU32 : access.AccessAnswer → Type 0
 ListedInU32 (access.refusal number place) = Unit {0}
 ListedInU32 (access.listed count) = count ≤ 4294967295
@@ -62,6 +63,7 @@ unfoldable pub joinedNumbers : fields.JoinAnswer → CountAnswer
 joinedNumbers (fields.refusal number place) = refusedNumbers number place
 joinedNumbers (fields.joined count) = countedNumbers count
 
+-- its numbers are u32s
 unfoldable pub JoinedInU32 : fields.JoinAnswer → Type 0
 JoinedInU32 (fields.refusal number place) = Unit {0}
 JoinedInU32 (fields.joined count) = count ≤ 4294967295

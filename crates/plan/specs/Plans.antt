@@ -56,6 +56,7 @@ sitePlan s lent = cond (enough (s .window) lent) (Make s) (Refused 7 0)
 
 -- ---- the plan of a field call
 
+-- what a field call is given, as one record
 abbrev pub inputOf : (width height : ℕ) (cells : List ℕ) (lanes : ℕ) (blockers resources : List ℤ) (targets : Rectangle) → FieldInput
 inputOf width height cells lanes blockers resources targets =
     record { width = width; height = height; cells = cells; lanes = lanes; blockers = blockers; resources = resources; targets = targets }

@@ -1,2 +1,3 @@
+-- The sections of rectangles of a room text, and what reading them finds.
 pub mod Readings
 pub mod Answers

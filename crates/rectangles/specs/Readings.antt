@@ -25,12 +25,15 @@ pub record Both (First Second : List (List ℕ) → Type 0) (lines : List (List 
 abbrev pub RectanglesForm : List (List ℕ) → Type 0
 RectanglesForm = Counted FourLines 0 2147483647
 
+-- "targets (count 1)"
 abbrev pub TargetsForm : List (List ℕ) → Type 0
 TargetsForm = Counted FourLines 1 1
 
+-- resources, and then targets
 abbrev pub EndForm : List (List ℕ) → Type 0
 EndForm = Both RectanglesForm TargetsForm
 
+-- blockers, resources, and then targets
 abbrev pub TailForm : List (List ℕ) → Type 0
 TailForm = Both RectanglesForm EndForm
 
@@ -39,6 +42,7 @@ pub data EndFound : Type 0 where
   end : (resources past : ℕ) → EndFound
   end-broken : (passed : ℕ) → EndFound
 
+-- the resources and the target box that were read and stored from a place of the buffer on
 pub record EndTaken (text : List ℕ) (at place : ℕ) (before after : List ℤ) (n past : ℕ) : Type 0 where
   pub resources : List Four
   pub targets : Four
@@ -49,6 +53,7 @@ pub record EndTaken (text : List ℕ) (at place : ℕ) (before after : List ℤ)
   pub lines : LinesAt text at (counted (map fourLine resources) ++ counted (fourLine targets ∷ [])) past
   pub stored : after ≡ sets before place (numbersOf (resources ++ (targets ∷ [])))
 
+-- what reading them finds: them, or how many lines stand before the one that breaks the form
 pub data TakesEnd (text : List ℕ) (at place : ℕ) (before after : List ℤ) : EndFound → Type 0 where
   takes-end : {n past : ℕ} → EndTaken text at place before after n past → TakesEnd text at place before after (end n past)
   breaks-end : {passed : ℕ} → BreaksIn EndForm (drop at text) passed → TakesEnd text at place before after (end-broken passed)
@@ -58,6 +63,7 @@ pub data TailFound : Type 0 where
   tail : (blockers resources past : ℕ) → TailFound
   tail-broken : (passed : ℕ) → TailFound
 
+-- the blockers, the resources and the target box that were read and stored from the buffer's start on
 pub record TailTaken (text : List ℕ) (at : ℕ) (before after : List ℤ) (m n past : ℕ) : Type 0 where
   pub blockers : List Four
   pub resources : List Four
@@ -72,6 +78,7 @@ pub record TailTaken (text : List ℕ) (at : ℕ) (before after : List ℤ) (m n
   pub lines : LinesAt text at (counted (map fourLine blockers) ++ (counted (map fourLine resources) ++ counted (fourLine targets ∷ []))) past
   pub stored : after ≡ sets before 0 (numbersOf (blockers ++ (resources ++ (targets ∷ []))))
 
+-- what reading them finds: them, or how many lines stand before the one that breaks the form
 pub data TakesTail (text : List ℕ) (at : ℕ) (before after : List ℤ) : TailFound → Type 0 where
   takes-tail : {m n past : ℕ} → TailTaken text at before after m n past → TakesTail text at before after (tail m n past)
   breaks-tail : {passed : ℕ} → BreaksIn TailForm (drop at text) passed → TakesTail text at before after (tail-broken passed)

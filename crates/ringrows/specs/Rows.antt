@@ -14,5 +14,6 @@ rowPlaces cells runs = openPlaces cells (runs .first) (runs .before) ++ openPlac
 unfoldable pub rowsOf : List ℕ → ℕ → Box → Box → ℕ → List ℕ
 rowsOf cells width ring body n = rowPlaces cells (rowRuns width ring body (ring .top + n))
 
+-- and all rows, one after another
 unfoldable pub ringPlaces : List ℕ → ℕ → Box → Box → List ℕ
 ringPlaces cells width ring body = inOrder (rowsOf cells width ring body) (ring .bottom + 1 - ring .top)

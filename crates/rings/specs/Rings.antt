@@ -16,6 +16,7 @@ use Rattle.rings.specs.declared.ring.Ring.{Ring}
 use Rattle.rings.specs.declared.ring.Ring.the-variants.{Present, Refused}
 use Rattle.cells.specs.Boxes.{boxOf}
 
+-- "a rectangle is four i32: left, top, right, bottom"
 abbrev pub corners : ℤ → ℤ → ℤ → ℤ → Rectangle
 corners left top right bottom = record { left = left; top = top; right = right; bottom = bottom }
 

@@ -21,12 +21,14 @@ fourLine f = decimalOf (f .left) ++ (32 ∷ (decimalOf (f .top) ++ (32 ∷ (deci
 abbrev pub Signed32 : ℤ → Type 0
 Signed32 z = Within (negsuc 2147483647) (pos 2147483647) z
 
+-- all four are in range
 pub record FourFits (f : Four) : Type 0 where
   pub left : Signed32 (f .left)
   pub top : Signed32 (f .top)
   pub right : Signed32 (f .right)
   pub bottom : Signed32 (f .bottom)
 
+-- and those of each rectangle
 pub data AllFit : List Four → Type 0 where
   nothing : AllFit []
   more : {f : Four} {fs : List Four} → FourFits f → AllFit fs → AllFit (f ∷ fs)
@@ -42,11 +44,13 @@ pub data FourFound : Type 0 where
   four : Four → (past : ℕ) → FourFound
   no-four : FourFound
 
+-- the line of four numbers that stands at a place, up to the place after its LF
 pub record FourAt (text : List ℕ) (at : ℕ) (f : Four) (past : ℕ) : Type 0 where
   pub fits : FourFits f
   pub stands : drop at text ≡ fourLine f ++ (10 ∷ drop past text)
   pub inside : past ≤ length text
 
+-- four numbers are found exactly if their line stands at the place
 pub data ReadsFour (text : List ℕ) (at : ℕ) : FourFound → Type 0 where
   accepts-four : {f : Four} {past : ℕ} → FourAt text at f past → ReadsFour text at (four f past)
   refuses-four : ((f : Four) (after : List ℕ) → FourFits f → drop at text ≡ fourLine f ++ (10 ∷ after) → ⊥) → ReadsFour text at no-four

@@ -18,6 +18,7 @@ isCell byte = eqb byte 46 || eqb byte 35
 unfoldable pub cellOf : ℕ → ℕ
 cellOf byte = cond (eqb byte 46) 1 0
 
+-- the bytes of all rows
 unfoldable pub cellsOf : List (List ℕ) → List ℕ
 cellsOf [] = []
 cellsOf (row ∷ rows) = map cellOf row ++ cellsOf rows
@@ -59,6 +60,7 @@ pub record RowsTaken (text : List ℕ) (at n : ℕ) (before after : List ℕ) (w
   pub stand : LinesAt text at lines past
   pub stored : after ≡ sets before 0 (cellsOf lines)
 
+-- what reading rows finds: them, or how many of them stand before the line that breaks their form
 pub data TakesRows (text : List ℕ) (at n : ℕ) (before after : List ℕ) : RowsFound → Type 0 where
   takes-rows : {width past : ℕ} → RowsTaken text at n before after width past → TakesRows text at n before after (rows width past)
   breaks-rows : {passed : ℕ} → BreaksIn (RowLines n) (drop at text) passed → TakesRows text at n before after (rows-broken passed)
@@ -84,6 +86,7 @@ pub record GridTaken (text : List ℕ) (at : ℕ) (before after : List ℕ) (wid
   pub stand : LinesAt text at (decimalOf (pos height) ∷ lines) past
   pub stored : after ≡ sets before 0 (cellsOf lines)
 
+-- what reading the count and the rows finds: them, or how many lines stand before the one that breaks the form
 pub data TakesGrid (text : List ℕ) (at : ℕ) (before after : List ℕ) : GridFound → Type 0 where
   takes-grid : {width height past : ℕ} → GridTaken text at before after width height past → TakesGrid text at before after (grid width height past)
   breaks-grid : {passed : ℕ} → BreaksIn (Counted RowLines 1 2147483647) (drop at text) passed → TakesGrid text at before after (grid-broken passed)

@@ -15,6 +15,7 @@ use Rattle.roomtext.specs.Room.{Room, roomText, Formed, Breaks}
 abbrev pub RowsForm : List (List ℕ) → Type 0
 RowsForm = Counted RowLines 1 2147483647
 
+-- "Sections in a fixed order": rows, and then the rectangles
 abbrev pub RoomForm : List (List ℕ) → Type 0
 RoomForm = Both RowsForm TailForm
 

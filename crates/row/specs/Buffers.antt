@@ -8,9 +8,11 @@ use Rattle.lane.specs.Levels.{levelAt, LaneCount}
 use Rattle.ways.specs.Buffers.{flagAt}
 use Rattle.row.specs.Visits.{Ground, State}
 
+-- what a sweep reads and never writes
 abbrev pub groundOf : (lanes stride : ℕ) (flags rows : List ℕ) → Ground
 groundOf lanes stride flags rows = record { lanes = lanes; stride = stride; flag = flagAt flags; rows = rows }
 
+-- what a sweep reads and writes
 abbrev pub stateOf : (lanes : List ℤ) (versions pulled : List ℕ) (changed : Bool) → State
 stateOf lanes versions pulled changed = record { levels = levelAt lanes; versions = versions; pulled = pulled; changed = changed }
 

@@ -24,6 +24,7 @@ pub record State : Type 0 where
 abbrev pub first : Ground → ℕ → ℕ
 first g y = getD (g .rows) (2 * y - 2) 0
 
+-- and one past its last column
 abbrev pub past : Ground → ℕ → ℕ
 past g y = getD (g .rows) (2 * y - 1) 0
 
@@ -49,5 +50,6 @@ pub data Visited (g : Ground) (down fresh : Bool) (y z : ℕ) (s : State) : Stat
 abbrev pub rowAt : Bool → ℕ → ℕ → ℕ
 rowAt down height turn = cond down (turn + 1) (height - turn)
 
+-- the row before it in the sweep
 abbrev pub feedAt : Bool → ℕ → ℕ → ℕ
 feedAt down height turn = cond down turn (height - turn + 1)

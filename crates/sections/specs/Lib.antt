@@ -1,2 +1,3 @@
+-- Lines of four numbers and sections of them, and what reading and storing them comes to.
 pub mod Storing
 pub mod Answers

@@ -39,6 +39,7 @@ pub record FoursTaken (text : List ℕ) (at n place : ℕ) (before after : List 
   pub lines : LinesAt text at (map fourLine fours) past
   pub stored : after ≡ sets before place (numbersOf fours)
 
+-- what reading so many lines finds: them, or how many stand before the one that breaks the form
 pub data TakesFours (text : List ℕ) (at n place : ℕ) (before after : List ℤ) : LinesFound → Type 0 where
   takes-fours : {past : ℕ} → FoursTaken text at n place before after past → TakesFours text at n place before after (up-to past)
   breaks-fours : {passed : ℕ} → BreaksIn (FourLines n) (drop at text) passed → TakesFours text at n place before after (broken passed)
@@ -48,6 +49,7 @@ pub data SectionFound : Type 0 where
   section : ℕ → (past : ℕ) → SectionFound
   section-broken : (passed : ℕ) → SectionFound
 
+-- "each after its count on a line of its own": a section that was read and stored
 pub record SectionTaken (lowest highest : ℕ) (text : List ℕ) (at place : ℕ) (before after : List ℤ) (n past : ℕ) : Type 0 where
   pub fours : List Four
   pub fit : AllFit fours
@@ -57,6 +59,7 @@ pub record SectionTaken (lowest highest : ℕ) (text : List ℕ) (at place : ℕ
   pub lines : LinesAt text at (decimalOf (pos n) ∷ map fourLine fours) past
   pub stored : after ≡ sets before place (numbersOf fours)
 
+-- what reading a section finds: it, or how many of its lines stand before the one that breaks the form
 pub data TakesSection (lowest highest : ℕ) (text : List ℕ) (at place : ℕ) (before after : List ℤ) : SectionFound → Type 0 where
   takes-section : {n past : ℕ} → SectionTaken lowest highest text at place before after n past → TakesSection lowest highest text at place before after (section n past)
   breaks-section : {passed : ℕ} → BreaksIn (Counted FourLines lowest highest) (drop at text) passed → TakesSection lowest highest text at place before after (section-broken passed)

@@ -10,6 +10,7 @@ pub data Delivers (sheet before : List ℕ) : List ℕ → ℕ → Type 0 where
   -- a buffer shorter than the sheet: nothing is written
   too-short : length before < length sheet → Delivers sheet before before 0
 
+-- the promise of the sheet of a text: every text has a sheet, and the buffer gets it or is too short for it
 pub record SheetPromise (text before after : List ℕ) (count : ℕ) : Type 0 where
   pub sheet : List ℕ
   pub is : SheetOf text sheet

@@ -44,6 +44,7 @@ pub record FieldsRoom (fields : List ℕ) (resources at : ℕ) (page : List ℕ)
   pub few : resources ≤ 8
   pub text : at + resources * 6 ≤ length page
 
+-- the lines of the fields have room, and each number has one digit
 pub record GroupsRoom (groups : ℕ) (fields : List ℕ) (resources at : ℕ) (page : List ℕ) : Type 0 where
   pub known : resources ≤ length fields
   pub few : resources ≤ 8

@@ -12,6 +12,7 @@ use Rattle.startcells.specs.Hits.{someBelow, cellsHit}
 unfoldable pub firstColumn : Window → List ℕ → Box → ℕ → ℕ
 firstColumn w rows ring row = max (ring .left + 1) (getD rows (2 * row) 0 + w .left)
 
+-- and one past its last
 unfoldable pub pastColumn : Window → List ℕ → Box → ℕ → ℕ
 pastColumn w rows ring row = min (ring .right + 2) (getD rows (2 * row + 1) 0 + w .left)
 

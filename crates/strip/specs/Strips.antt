@@ -20,5 +20,6 @@ unfoldable pub outAt : (old over west east beside westGate eastGate walkGate : L
 outAt old over west east beside westGate eastGate walkGate k =
     outLevel (levelAt old k) (levelAt over k) (levelAt west k) (levelAt east k) (levelAt beside k) (levelAt westGate k) (levelAt eastGate k) (levelAt walkGate k)
 
+-- and on the way back
 unfoldable pub backAt : (old beside walkGate : List ℤ) → ℕ → ℕ
 backAt old beside walkGate k = backLevel (levelAt old k) (levelAt beside k) (levelAt walkGate k)

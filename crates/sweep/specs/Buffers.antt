@@ -10,6 +10,7 @@ use Rattle.row.specs.Visits.{Ground}
 use Rattle.row.specs.Buffers.{groundOf}
 use Rattle.sweep.specs.Sweeps.{Run, Sweeps}
 
+-- what a run of sweeps reads and writes
 abbrev pub runOf : (lanes : List ℤ) (versions pulledDown pulledUp : List ℕ) → Run
 runOf lanes versions pulledDown pulledUp = record { levels = levelAt lanes; versions = versions; pulledDown = pulledDown; pulledUp = pulledUp }
 
@@ -27,6 +28,7 @@ pub record Window (lanes stride height : ℕ) (rows : List ℕ) (cells bytes ver
 abbrev pub SweepFits : (lanes stride height : ℕ) (rows : List ℕ) (cells bytes versions pulled : ℕ) → Type 0
 SweepFits lanes stride height rows cells bytes versions pulled = Window lanes stride height rows cells bytes versions × (height + 2 ≤ pulled)
 
+-- the buffers are as long as all sweeps need
 abbrev pub RunFits : (lanes stride height : ℕ) (rows : List ℕ) (cells bytes versions pulledDown pulledUp : ℕ) → Type 0
 RunFits lanes stride height rows cells bytes versions pulledDown pulledUp =
     Window lanes stride height rows cells bytes versions × (height + 2 ≤ pulledDown) × (height + 2 ≤ pulledUp)

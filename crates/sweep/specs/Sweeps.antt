@@ -22,6 +22,7 @@ pub record Run : Type 0 where
 abbrev pub begins : Bool → Run → State
 begins down r = record { levels = r .levels; versions = r .versions; pulled = cond down (r .pulledDown) (r .pulledUp); changed = false }
 
+-- and what a sweep leaves of the run
 abbrev pub leaves : Bool → Run → State → Run
 leaves down r s = record { levels = s .levels; versions = s .versions; pulledDown = cond down (s .pulled) (r .pulledDown); pulledUp = cond down (r .pulledUp) (s .pulled) }
 

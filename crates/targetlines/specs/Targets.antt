@@ -29,11 +29,13 @@ pub record LineRoom (window : WindowRecord) (lanes : List ℤ) (resources x y at
   pub row : y < 60
   pub text : Room (lineAt window lanes resources x y) at page
 
+-- the lines of row y have room
 pub record RowRoom (window : WindowRecord) (lanes : List ℤ) (resources : ℕ) (targets : Box) (y at : ℕ) (page : List ℕ) : Type 0 where
   pub box : InMap 60 60 targets
   pub row : y < 60
   pub text : Room (rowLines window lanes resources targets y) at page
 
+-- the lines of all target cells have room
 pub record TargetRoom (window : WindowRecord) (lanes : List ℤ) (resources : ℕ) (targets : Box) (at : ℕ) (page : List ℕ) : Type 0 where
   pub box : InMap 60 60 targets
   pub text : Room (targetLines window lanes resources targets) at page

@@ -13,6 +13,7 @@ textOf (content ∷ lines) = content ++ (10 ∷ textOf lines)
 pub record Plain (content : List ℕ) : Type 0 where
   pub each : (k : ℕ) → k < length content → getD content k 0 ≡ 10 → ⊥
 
+-- and that of each line
 pub data AllPlain : List (List ℕ) → Type 0 where
   nothing : AllPlain []
   more : {content : List ℕ} {lines : List (List ℕ)} → Plain content → AllPlain lines → AllPlain (content ∷ lines)
@@ -29,6 +30,7 @@ pub data LineFound : Type 0 where
   ends : (end : ℕ) → LineFound
   unended : LineFound
 
+-- the end of a line is found exactly if LF ends it
 pub data FindsLine (text : List ℕ) (at : ℕ) : LineFound → Type 0 where
   line : {end : ℕ} → LineAt text at end → FindsLine text at (ends end)
   none : ((end : ℕ) → LineAt text at end → ⊥) → FindsLine text at unended

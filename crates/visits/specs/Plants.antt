@@ -16,6 +16,7 @@ pub record MayPlant (states queue parents ranks : List ℕ) (tail label index : 
   pub room : of states index ≡ 65535 → tail < length queue
   pub other : of states index ≢ 0 → of states index ≢ 65535 → Label (length parents) (of states index)
 
+-- an access cell: unwalkable and left, labelled, or met by its label
 pub data Planted (states queue parents ranks : List ℕ) (tail label index point : ℕ) : List ℕ → List ℕ → List ℕ → List ℕ → ℕ → Type 0 where
   shut : of states index ≡ 0 → Planted states queue parents ranks tail label index point states queue parents ranks tail
   labelled : of states index ≡ 65535 → Planted states queue parents ranks tail label index point (set states index label) (set queue tail point) parents ranks (tail + 1)

@@ -24,6 +24,7 @@ pub record MayVisit (states queue parents ranks : List ℕ) (tail state next fir
   pub room : T (opens states next first second) → of states next ≡ 65535 → tail < length queue
   pub labels : T (opens states next first second) → of states next ≢ 65535 → Label (length parents) (of states next)
 
+-- a move to a cell: closed, into a cell that gets a label, or into one whose label is met
 pub data Visited (states queue parents ranks : List ℕ) (tail state next point first second : ℕ) : List ℕ → List ℕ → List ℕ → List ℕ → ℕ → Type 0 where
   shut : T (not (opens states next first second)) → Visited states queue parents ranks tail state next point first second states queue parents ranks tail
   labelled : T (opens states next first second) → of states next ≡ 65535 →

@@ -30,6 +30,7 @@ pub record Pixels (left top right bottom : ℕ) : Type 0 where
 abbrev pub fromCell : ℕ → ℕ → ℕ
 fromCell low start = max (low / 8) start
 
+-- and one past the last
 abbrev pub pastCell : ℕ → ℕ → ℕ → ℕ
 pastCell high start size = min ((high + 7) / 8) (start + size)
 

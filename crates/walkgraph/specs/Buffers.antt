@@ -26,6 +26,7 @@ pub record Call : Type 0 where
   pub resources : List ℤ
   pub targets : Box
 
+-- "a rectangle is four i32"
 unfoldable pub resourceCount : Call → ℕ
 resourceCount c = length (c .resources) / 4
 
@@ -37,9 +38,11 @@ sourceBox c = sources (c .width) (c .height) (c .resources) (resourceCount c - 1
 unfoldable pub unblocked : Call → ℕ → ℕ → Bool
 unblocked c = painted (c .width) (c .height) (c .cells) (c .blockers)
 
+-- the window of the call, in cells of the map
 unfoldable pub windowOf : Call → Box
 windowOf c = window (c .reach) (c .width) (c .height) (sourceBox c) (c .targets)
 
+-- and with its padding
 unfoldable pub paddedOf : Call → PaddedWindow
 paddedOf c = padded (c .reach) (c .width) (c .height) (unblocked c) (sourceBox c) (c .targets)
 
@@ -62,6 +65,7 @@ pub data LaneIs (c : Call) (l x y v : ℕ) : Type 0 where
 unfoldable pub cellPlace : PaddedWindow → ℕ → ℕ → ℕ
 cellPlace m x y = y * (m .width + 2) + x
 
+-- "P x lanes i16": where lane l of that cell stands
 unfoldable pub lanePlace : Call → ℕ → ℕ → ℕ → ℕ
 lanePlace c l x y = cellPlace (paddedOf c) x y * c .lanes + l
 
@@ -80,11 +84,13 @@ pub record LanesAre (c : Call) (before after : List ℤ) : Type 0 where
 unfoldable pub laneStart : Call → ℕ → List (List ℕ)
 laneStart c l = startTable (paddedOf c) (λ x y. startsLane c l (windowOf c .left + x - 1) (windowOf c .top + y - 1))
 
+-- "The reported sweep count is the number of plain sweeps so run"
 unfoldable pub CountIs : Call → ℕ → Type 0
 CountIs c k = IsCount (paddedOf c) (laneStart c) (c .lanes) k
 
 -- ---- bytes, by column and row counted with padding
 
+-- "1 walkable and 0 not"
 abbrev pub bit : Bool → ℕ
 bit true = 1
 bit false = 0
@@ -105,6 +111,7 @@ flagByte m x y =
 unfoldable pub rowFirst : PaddedWindow → ℕ → ℕ
 rowFirst m y = firstFrom (λ x. m .inside x y) 1 (m .width)
 
+-- and one past its last inside column
 unfoldable pub rowPast : PaddedWindow → ℕ → ℕ
 rowPast m y = pastLast (λ x. m .inside x y) (m .width + 1) (m .width)
 

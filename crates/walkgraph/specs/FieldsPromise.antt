@@ -25,6 +25,7 @@ pub record JoinLent : Type 0 where
   pub ranks : List ℕ
   pub answers : List ℕ
 
+-- the lengths of the lent buffers
 unfoldable pub lengthsOf : JoinLent → JoinLengths
 lengthsOf lent =
     record {

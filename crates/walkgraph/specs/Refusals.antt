@@ -42,6 +42,7 @@ badFours most numbers = not (eqb (length numbers % 4) 0 && leb (length numbers /
 unfoldable pub badSide : ℕ → ℤ → ℤ → Bool
 badSide size low high = not (leZ (pos 0) low && ltZ low high && leZ high (pos (8 * size)))
 
+-- of both sides
 unfoldable pub badResource : ℕ → ℕ → Rectangle → Bool
 badResource width height r = badSide width (r .left) (r .right) || badSide height (r .top) (r .bottom)
 

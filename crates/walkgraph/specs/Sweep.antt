@@ -44,6 +44,7 @@ written m x y = m .walkable x y && m .inside x y
 abbrev pub readRow : PaddedWindow → List ℕ → ℕ → ℕ
 readRow m row x = getD row x (unreachable (m .reach))
 
+-- the value of column x of row y
 abbrev pub valueAt : PaddedWindow → List (List ℕ) → ℕ → ℕ → ℕ
 valueAt m table x y = readRow m (getD table y []) x
 
@@ -62,6 +63,7 @@ unfoldable pub diagonalFrom : ℕ → Bool → ℕ → ℕ
 diagonalFrom top true v = v + 707
 diagonalFrom top false v = top
 
+-- "the least of itself, above +500, the two diagonals above +707 where allowed, and left +500"
 unfoldable pub leastOfFive : ℕ → ℕ → ℕ → ℕ → ℕ → ℕ
 leastOfFive a b c d e = min a (min b (min c (min d e)))
 
@@ -74,6 +76,7 @@ rightStep top ok west east feed old x left =
     (leastOfFive (old (suc x)) (feed (suc x) + 500) (diagonalFrom top (west (suc x)) (feed x)) (diagonalFrom top (east (suc x)) (feed (suc (suc x)))) (left + 500))
     (old (suc x))
 
+-- and so the values of a row after its way to the right
 unfoldable pub rightward : ℕ → (ℕ → Bool) → (ℕ → Bool) → (ℕ → Bool) → (ℕ → ℕ) → (ℕ → ℕ) → ℕ → ℕ
 rightward top ok west east feed old = grown (old zero) (rightStep top ok west east feed old)
 
@@ -89,10 +92,12 @@ leftward width ok old = grown (old (width + 1)) (leftStep width ok old)
 unfoldable pub corner : PaddedWindow → ℕ → ℕ → ℕ → ℕ → Bool
 corner m x y u z = m .walkable u y && m .walkable x z
 
+-- into column x from the column to its left; none is left of the padding
 unfoldable pub cornerWest : PaddedWindow → ℕ → ℕ → ℕ → Bool
 cornerWest m y z zero = false
 cornerWest m y z (suc x) = corner m (suc x) y x z
 
+-- and from the column to its right
 unfoldable pub cornerEast : PaddedWindow → ℕ → ℕ → ℕ → Bool
 cornerEast m y z x = corner m x y (suc x) z
 
@@ -106,6 +111,7 @@ relaxed m y z feed old =
 
 -- ---- one sweep
 
+-- a sweep goes down or up
 pub data Direction : Type 0 where
   down up : Direction
 
@@ -122,6 +128,7 @@ sweptStep m d table i feed = relaxed m (place m d (suc i)) (place m d i) feed (g
 unfoldable pub swept : PaddedWindow → Direction → List (List ℕ) → ℕ → List ℕ
 swept m d table = grown (getD table (place m d zero) []) (sweptStep m d table)
 
+-- all rows after the sweep, from the top
 unfoldable pub sweep : PaddedWindow → Direction → List (List ℕ) → List (List ℕ)
 sweep m d table =
     let rows = grow (m .height + 2) (getD table (place m d zero) []) (sweptStep m d table) in
@@ -134,6 +141,7 @@ unfoldable pub turn : Direction → Direction
 turn down = up
 turn up = down
 
+-- the direction of sweep n, from 0: "Down comes first, then they alternate"
 unfoldable pub direction : ℕ → Direction
 direction zero = down
 direction (suc n) = turn (direction n)

@@ -19,9 +19,11 @@ walkGate flag = gate (flag % 2)
 abbrev pub turned : Bool → ℕ → ℕ
 turned down flag = cond down flag (flag / 4)
 
+-- what lets the diagonal from the west through
 abbrev pub westGate : Bool → ℕ → ℕ
 westGate down flag = gate (turned down flag / 2 % 2)
 
+-- and that from the east
 abbrev pub eastGate : Bool → ℕ → ℕ
 eastGate down flag = gate (turned down flag / 4 % 2)
 

@@ -9,6 +9,7 @@ use Rattle.window.specs.declared.record.Window.{Window}
 abbrev pub entries : List ℕ → ℕ → ℕ
 entries buffer i = getD buffer i 0
 
+-- nothing but 0
 abbrev pub zeros : ℕ → ℕ
 zeros x = 0
 

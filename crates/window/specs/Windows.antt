@@ -5,6 +5,7 @@ use Rattle.walkgraph.specs.Reading.{WindowRecord}
 use Rattle.cells.specs.Boxes.{InMap}
 use Rattle.window.specs.declared.record.Window.{Window}
 
+-- a window of the code as the record of the definitions
 abbrev pub asRecord : Window → WindowRecord
 asRecord w = record { left = w .left; top = w .top; width = w .width; height = w .height; lanes = w .lanes }
 
