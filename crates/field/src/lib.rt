@@ -34,7 +34,8 @@ pub fn field(
 ) -> Answer
     ensures { λ r. ⌜ FieldPromise reach (inputOf width height (now (cells .entry)) lanes (now (blockers .entry)) (now (resources .entry)) (corners left top right bottom))
         (lent (now («lane_values» .entry)) (now (walk .entry)) (now (flags .entry)) (now (rows .entry)) (now (versions .entry)) (now («pulled_down» .entry)) (now («pulled_up» .entry)))
-        (lent (now («lane_values» .exit)) (now (walk .exit)) (now (flags .exit)) (now (rows .exit)) (now (versions .exit)) (now («pulled_down» .exit)) (now («pulled_up» .exit))) (answerOf r) ⌝ }
+        (lent (now («lane_values» .exit)) (now (walk .exit)) (now (flags .exit)) (now (rows .exit)) (now (versions .exit)) (now («pulled_down» .exit)) (now («pulled_up» .exit)))
+        (answerOf r) ⌝ }
 {
     let lent = Lent {
         lanes: lane_values.len(),
