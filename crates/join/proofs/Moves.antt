@@ -1,15 +1,12 @@
 -- Moves between cells, as indices, points and steps.
-use mathlib.Core.Path.{_≡_, refl, sym, _∙_, ap}
-use mathlib.Core.Logic.{_⊎_, inl, inr, ⊎-elim}
-use mathlib.Core.Bool.{Bool, _&&_}
+use mathlib.Core.Path.{_≡_, sym, ap}
 use mathlib.Core.List.{List}
 use Prim.Native.Nat.{ℕ, suc, _+_, _*_, _-_, _/_, _%_, _≤_, _<_}
 use native.Mathlib.Nat.{add-mul, suc-mul}
-use native.Mathlib.Decide.{decLe, ℕ-discrete}
+use native.Mathlib.Decide.{ℕ-discrete}
 use native.Mathlib.Omega.{arith}
 use lib.Dec.{T, ltb, ltb→lt, lt→ltb}
 use lib.Arith.{digits-div, digits-mod}
-use lib.ListN.{length}
 use Rattle.walkgraph.specs.Walk.{distance, Step, straight, diagonal}
 use Rattle.walkgraph.proofs.Tests.{by-cases, and-left, and-right, and-pair}
 use Rattle.walkgraph.proofs.SearchEnd.{Adj}

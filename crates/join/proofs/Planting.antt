@@ -1,9 +1,8 @@
 -- Labelling access cells before the search: all in the queue have depth 0.
-use mathlib.Core.Path.{_≡_, refl, sym, _∙_, ap}
+use mathlib.Core.Path.{_≡_, sym, _∙_, ap}
 use mathlib.Core.Logic.{_≢_}
-use mathlib.Core.Bool.{Bool, not}
 use mathlib.Core.List.{List}
-use Prim.Native.Nat.{ℕ, suc, _+_, _*_, _/_, _%_, _≤_, _<_}
+use Prim.Native.Nat.{ℕ, _+_, _*_, _/_, _%_, _≤_, _<_}
 use native.Mathlib.Decide.{ℕ-discrete}
 use native.Mathlib.Omega.{arith}
 use lib.Dec.{T, T-not}
@@ -15,11 +14,11 @@ use Rattle.walkgraph.proofs.Tests.{by-cases}
 use Rattle.walkgraph.proofs.DisjointSet.{Same}
 use Rattle.walkgraph.proofs.SearchTurns.{Turn, Push, push-room, seed-turn, join-turn, turn-over}
 use Rattle.walkgraph.proofs.SearchEnd.{Adj, Near, adj-over, near-over}
-use Rattle.disjoint.specs.Forest.{of, Forest}
+use Rattle.disjoint.specs.Forest.{of}
 use Rattle.labels.specs.Labels.{ownerOf, depthOf, Label, cellOf}
 use Rattle.labels.specs.Growth.{Met}
 use Rattle.visits.specs.Plants.{MayPlant, Planted, shut, labelled, met}
-use Rattle.join.specs.Search.{isLabel, stateOf, Walks, Seeds, Searching, Planting}
+use Rattle.join.specs.Search.{isLabel, stateOf, Walks, Seeds, Planting}
 use Rattle.join.proofs.Searching.{is-label, no-label, walks-on, walks-off, seeds-on}
 
 module _ {width height : ℕ} {states queue parents ranks : List ℕ} {tail r index : ℕ} (P : Planting width height states queue parents ranks tail) (in-map : index < length states)

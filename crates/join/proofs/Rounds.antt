@@ -1,7 +1,7 @@
 -- The moves of one cell, one after another: what holds after j of those that are listed, and that the cell is done after all.
-use mathlib.Core.Path.{_≡_, refl, sym, _∙_, ap}
-use mathlib.Core.Logic.{_≢_, _⊎_, inl, inr, ⊎-elim}
-use mathlib.Core.Bool.{Bool, _&&_}
+use mathlib.Core.Path.{_≡_, refl, _∙_}
+use mathlib.Core.Logic.{_≢_, _⊎_, ⊎-elim}
+use mathlib.Core.Bool.{Bool}
 use mathlib.Core.List.{List}
 use Prim.Native.Nat.{ℕ, suc, _+_, _*_, _-_, _/_, _%_, _≤_, _<_}
 use native.Mathlib.Nat.{div-add-mod', mul-le-mul-right}
@@ -15,19 +15,19 @@ use lib.ListN.{length}
 use borrow.Author.Tests.{eq-eqb, ne-eqb}
 use Rattle.walkgraph.proofs.Tests.{by-cases, and-left, and-right, and-pair}
 use Rattle.walkgraph.proofs.DisjointSet.{Same}
-use Rattle.walkgraph.proofs.SearchTurns.{Looks, next-turn, queue-in}
+use Rattle.walkgraph.proofs.SearchTurns.{next-turn, queue-in}
 use Rattle.walkgraph.proofs.SearchEnd.{Adj}
-use Rattle.disjoint.specs.Forest.{of, Forest}
-use Rattle.labels.specs.Labels.{ownerOf, depthOf, Label, cellOf}
+use Rattle.disjoint.specs.Forest.{of}
+use Rattle.labels.specs.Labels.{ownerOf, depthOf, cellOf}
 use Rattle.labels.specs.Growth.{Grown}
 use Rattle.picks.specs.Picks.{within, isInside, highest}
 use Rattle.visits.specs.Visits.{opens, MayVisit, Visited}
 use Rattle.picks.specs.Listed.{Table, OnMap, Listed}
-use Rattle.join.specs.Search.{isLabel, stateOf, Walks, Links, Searching, Alike, Moved, Turning, Expanded}
+use Rattle.join.specs.Search.{isLabel, Walks, Links, Searching, Alike, Moved, Turning, Expanded}
 use Rattle.labels.proofs.Growing.{grown-none, grown-more, grown-chain, same-self}
 use Rattle.join.proofs.Moves.{row-moved, next-is, Inside, Opened, step-opened}
 use Rattle.picks.proofs.Listing.{within-is}
-use Rattle.join.proofs.Searching.{label-low, label-high, is-label, alike-self, alike-chain, alike-links, here-label, here-in, may-visit, visit-moved}
+use Rattle.join.proofs.Searching.{is-label, alike-self, alike-chain, alike-links, here-label, here-in, may-visit, visit-moved}
 
 -- the cells of a move from (x, y) by a - 1 columns and b - 1 rows
 abbrev pub nextOf : ℕ → ℕ → ℕ → ℕ → ℕ → ℕ

@@ -1,5 +1,5 @@
 -- The search, cell after cell, to its end.
-use mathlib.Core.Path.{_≡_, refl, sym, _∙_}
+use mathlib.Core.Path.{_≡_, sym, _∙_}
 use mathlib.Core.List.{List}
 use Prim.Native.Nat.{ℕ, suc, _+_, _*_, _≤_, _<_}
 use native.Mathlib.Decide.{decLe, ℕ-discrete}
@@ -16,7 +16,7 @@ use Rattle.walkgraph.proofs.SearchEnd.{joined}
 use Rattle.disjoint.specs.Forest.{of, Forest}
 use Rattle.labels.specs.Labels.{depthOf, cellOf}
 use Rattle.picks.specs.Listed.{Table}
-use Rattle.join.specs.Search.{isLabel, Walks, Seeds, Links, Searching, Turning, Expanded, Seeded, Running, Ran}
+use Rattle.join.specs.Search.{isLabel, Walks, Seeds, Links, Turning, Expanded, Seeded, Running, Ran}
 use Rattle.labels.proofs.Growing.{grown-none, grown-more, grown-chain, same-self}
 use Rattle.join.proofs.Searching.{alike-self, alike-chain, alike-links, here-label, is-label}
 

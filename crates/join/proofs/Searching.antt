@@ -1,23 +1,22 @@
 -- One move in a turn of the search: what it may assume, and what it leaves.
-use mathlib.Core.Path.{_≡_, refl, sym, _∙_, ap, subst}
-use mathlib.Core.Logic.{_≢_, _⊎_, inl, inr, ⊎-elim}
-use mathlib.Core.Bool.{Bool, true, false, not, _&&_}
+use mathlib.Core.Path.{_≡_, refl, _∙_, ap}
+use mathlib.Core.Logic.{_≢_}
+use mathlib.Core.Bool.{not}
 use mathlib.Core.List.{List}
 use Prim.Native.Nat.{ℕ, suc, _+_, _*_, _-_, _/_, _%_, _≤_, _<_}
-use native.Mathlib.Decide.{decLe, ℕ-discrete}
+use native.Mathlib.Decide.{ℕ-discrete}
 use native.Mathlib.Omega.{arith}
 use lib.Dec.{T, ltb, ltb→lt, lt→ltb, T-not}
-use lib.ListN.{getD, length, set, length-set}
+use lib.ListN.{length, set, length-set}
 use lib.Seq.{getD-set-same, getD-set-other}
-use borrow.Author.Tests.{le-ltb}
 use Rattle.walkgraph.proofs.Tests.{by-cases, and-left, and-right, and-pair}
 use Rattle.walkgraph.proofs.Places.{flat-lt}
 use Rattle.walkgraph.proofs.DisjointSet.{Same}
-use Rattle.walkgraph.proofs.SearchTurns.{State, Turn, Push, push-room, step-turn, join-turn, turn-over}
+use Rattle.walkgraph.proofs.SearchTurns.{Turn, Push, push-room, step-turn, join-turn, turn-over}
 use Rattle.walkgraph.proofs.SearchEnd.{Adj, Near, near-step, near-linked, adj-over, near-over, linked-over}
 use Rattle.disjoint.specs.Forest.{of, Forest}
-use Rattle.labels.specs.Labels.{ownerOf, depthOf, Label, cellOf}
-use Rattle.labels.specs.Growth.{Grown, Close, Met}
+use Rattle.labels.specs.Labels.{ownerOf, depthOf, Label}
+use Rattle.labels.specs.Growth.{Close, Met}
 use Rattle.visits.specs.Visits.{opens, MayVisit, Visited, shut, labelled, met}
 use Rattle.join.specs.Search.{isLabel, stateOf, Walks, Seeds, Links, Searching, Alike, Moved}
 use Rattle.labels.proofs.Growing.{grown-none, grown-more, same-self}

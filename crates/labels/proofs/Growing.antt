@@ -1,19 +1,19 @@
 -- Classes that grow by links: none, more, and one after another.
-use mathlib.Core.Path.{_≡_, refl, sym, _∙_, ap}
-use mathlib.Core.Logic.{_≢_, _⊎_, inl, inr, ⊎-elim}
+use mathlib.Core.Path.{_≡_, refl, _∙_}
+use mathlib.Core.Logic.{inl, inr, ⊎-elim}
 use mathlib.Core.List.{List}
 use Prim.Native.Nat.{ℕ, _+_, _<_}
 use native.Mathlib.Decide.{ℕ-discrete}
 use native.Mathlib.Omega.{arith}
 use lib.ListN.{length}
-use Rattle.walkgraph.specs.Links.{Joined, alone, linked, back, chain}
+use Rattle.walkgraph.specs.Links.{Joined, linked, back, chain}
 use Rattle.walkgraph.proofs.Tests.{by-cases}
 use Rattle.walkgraph.proofs.LinkSearch.{joined-by}
-use Rattle.walkgraph.proofs.DisjointSet.{Root, top, up, Same}
+use Rattle.walkgraph.proofs.DisjointSet.{Root, up, Same}
 use Rattle.disjoint.specs.Forest.{of, Forest}
 use Rattle.unions.specs.Joining.{United}
 use Rattle.labels.specs.Labels.{ownerOf, depthOf, Label}
-use Rattle.labels.specs.Growth.{Chained, Grown, Close, Met}
+use Rattle.labels.specs.Growth.{Chained, Grown, Met}
 
 pub grown-none : {Link : ℕ → ℕ → Type 0} {p k : List ℕ} → Forest p k → Grown Link p p k
 grown-none f = record { size = refl; forest = f; keeps = λ a b s. s; only = λ a b h i s. linked (h, i, inl s) }

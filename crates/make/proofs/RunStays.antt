@@ -2,12 +2,12 @@
 use mathlib.Core.Path.{_≡_, refl, _∙_}
 use mathlib.Core.Bool.{Bool, true, false}
 use mathlib.Core.List.{List}
-use Prim.Native.Nat.{ℕ, _+_, _-_, _≤_, _<_}
+use Prim.Native.Nat.{ℕ, _+_, _≤_, _<_}
 use native.Mathlib.Omega.{arith}
 use lib.ListN.{getD, length, set, length-set}
 use lib.Seq.{getD-set-other}
 use lib.Dec.{eqb}
-use Rattle.row.specs.Visits.{Ground, State, past, nextVersions, Visited, rowAt}
+use Rattle.row.specs.Visits.{Ground, State, nextVersions, Visited, rowAt}
 use Rattle.sweep.specs.Sweeps.{Run, Turns, begins, leaves, goesDown, Sweeps}
 
 module _ (g : Ground) (height : ℕ) where

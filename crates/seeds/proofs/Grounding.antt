@@ -6,7 +6,7 @@ use mathlib.Core.List.{List, [], _∷_}
 use Prim.Native.Nat.{ℕ, zero, suc, _+_, _*_, _≤_, _<_}
 use native.Mathlib.Decide.{decLe}
 use native.Mathlib.Omega.{arith}
-use lib.Dec.{T, ltb, eqb, ltb→lt, lt→ltb, eqb→eq}
+use lib.Dec.{T, ltb, ltb→lt, lt→ltb, eqb→eq}
 use lib.ListN.{length}
 use Rattle.walkgraph.specs.Map.{walkable}
 use Rattle.walkgraph.specs.Links.{Joined, alone}

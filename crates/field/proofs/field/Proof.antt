@@ -1,21 +1,14 @@
 -- `field::field`: what the plan says of the call, and what is made of it.
-use mathlib.Core.Path.{_≡_, refl, subst}
-use mathlib.Core.Logic.{_⊎_, ⊎-elim}
-use native.Mathlib.Omega.{arith}
+use mathlib.Core.Path.{refl}
 use lib.ListN.{length}
 use denote.Ref.{now}
-use denote.Enum.Declared.{tagOf}
 use mir.Syntax.{w32}
 use mir.ValLaws.{toZ-ofZ}
 use borrow.Author.Needs.{needs}
 use Rattle.walkgraph.specs.Buffers.{Lent}
 use Rattle.walkgraph.specs.Refusals.{FieldInput}
-use Rattle.walkgraph.specs.Promise.{made}
 use Rattle.rings.specs.Rings.{corners}
-use Rattle.plan.proofs.Plan.{the-type}
 use Rattle.plan.specs.declared.Lent as plan
-use Rattle.plan.specs.declared.Plan.{Plan}
-use Rattle.plan.specs.declared.Plan.the-variants.{Refused, Nothing, Make}
 use Rattle.plan.specs.Plans.{inputOf, Lengths, PlanOf}
 use Rattle.make.specs.Makes.{lent}
 use Rattle.fieldanswer.specs.Answers.{answerOf}

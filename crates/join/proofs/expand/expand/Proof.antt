@@ -1,10 +1,7 @@
 -- `join::expand::expand`: the moves that the loop passed are done.
 use mathlib.Core.Path.{_≡_, refl, sym, _∙_}
-use Prim.Native.Nat.{_-_, _≤_, _<_}
+use Prim.Native.Nat.{_-_, _≤_}
 use native.Mathlib.Omega.{arith}
-use borrow.Author.Needs.{needs}
-use lib.ListN.{length}
-use Rattle.disjoint.specs.Forest.{of}
 use Rattle.join.proofs.Rounds.{Round, round-none, round-may, round-on, round-done, head-cell, head-queued, few-cells, sizes, may-at, visited-at}
 use Rattle.join.proofs.Searching.{here-in}
 use Rattle.join.proofs.expand.expand.Statement.{statement}
