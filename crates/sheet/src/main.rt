@@ -3,7 +3,7 @@ use libc::STDIN_FILENO;
 use libc::STDOUT_FILENO;
 ghost use Prim.Native.Nat.{_≤_, _<_};
 ghost use lib.ListN.{length, take};
-ghost use Rattle.roomsheet.specs.SheetText.{SheetOf};
+ghost use Rattle.sheets.specs.SheetText.{SheetOf};
 
 // Puts the sheet of a text at the start of a buffer that has room for every sheet; answers how many bytes it has.
 fn answer(text: &[u8], out: &mut [u8]) -> usize

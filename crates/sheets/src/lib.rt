@@ -1,5 +1,9 @@
 // The library function of the program `sheet`: a room's text in, its sheet's text out.
-use page::bytes;
+mod drawing;
+mod fieldsheet;
+mod roomsheet;
+
+use delivery;
 ghost use Rattle.sheets.specs.Promise.{SheetPromise};
 
 // Writes the sheet of a text, or the line of its refusal, to the start of a buffer; answers how many bytes that were. A buffer that is too short gets nothing, and the answer is 0.
@@ -8,8 +12,5 @@ pub fn sheet(text: &[u8], out: &mut [u8]) -> usize
 {
     let mut page: [u8; 200000] = [0; 200000];
     let end = roomsheet::written(text, &mut page);
-    if out.len() < end {
-        return 0;
-    }
-    bytes::word(out, 0, &page[..end])
+    delivery::delivered(&page[..end], out)
 }

@@ -1,0 +1,3 @@
+-- Laws of the crate.
+pub mod Whole
+pub mod Once

@@ -1,0 +1,2 @@
+-- What a caller's buffer gets.
+pub mod Delivery

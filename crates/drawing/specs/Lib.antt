@@ -1,2 +1,0 @@
--- The sheet of a room.
-pub mod Drawings

@@ -1,2 +1,0 @@
--- The sheet of a room whose field is made.
-pub mod Shown

@@ -1,3 +1,0 @@
--- Laws of the crate.
-pub mod Rooms
-pub mod Once

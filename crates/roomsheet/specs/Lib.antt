@@ -1,2 +1,0 @@
--- The sheet of any text.
-pub mod SheetText

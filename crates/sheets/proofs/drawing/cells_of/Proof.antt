@@ -1,0 +1,28 @@
+-- `sheets::drawing::cells_of`: numbers that are not negative are cast to themselves.
+use Rattle.cells.proofs.Casts.{cast, may-cast}
+use Rattle.rings.proofs.Sources.{same-box}
+use Rattle.sheets.proofs.drawing.cells_of.Statement.{statement}
+use Rattle.sheets.proofs.drawing.cells_of.Tie as tie
+
+cast-t5 : tie.Need-cast-t5
+cast-t5 c = may-cast (c .args .left) (c .fits .left) _ (c .pre .left)
+
+cast-t6 : tie.Need-cast-t6
+cast-t6 c = may-cast (c .args .top) (c .fits .top) _ (c .pre .top)
+
+cast-t7 : tie.Need-cast-t7
+cast-t7 c = may-cast (c .args .right) (c .fits .right) _ (c .pre .right)
+
+cast-t8 : tie.Need-cast-t8
+cast-t8 c = may-cast (c .args .bottom) (c .fits .bottom) _ (c .pre .bottom)
+
+returns : tie.Need-returns
+returns c =
+    same-box
+    (cast (c .args .left) (c .fits .left) _ (c .pre .left))
+    (cast (c .args .top) (c .fits .top) _ (c .pre .top))
+    (cast (c .args .right) (c .fits .right) _ (c .pre .right))
+    (cast (c .args .bottom) (c .fits .bottom) _ (c .pre .bottom))
+
+pub cells-of-spec : {M : Type 1} → statement M
+cells-of-spec = tie.close (tie.spec cast-t5 cast-t6 cast-t7 cast-t8 returns)
