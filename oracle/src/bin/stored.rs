@@ -1,7 +1,8 @@
 //! `stored FOLDER [SEED]` writes the stored answers of the program crate in FOLDER: `data/000` and
-//! on, a room text each, and `stdout`, for each its number on a line and then what program `sheet`
-//! prints. What is accepted is answered by the unchanged Rust; the refusals are those of `rooms.rs`,
-//! which were checked by hand, and a reader that differs from one of them ends the program.
+//! on, a room text each, `args`, their names, and `stdout`, what program `sheet` prints of them, one
+//! after the other. What is accepted is answered by the unchanged Rust; the refusals are those of
+//! `rooms.rs`, which were checked by hand, and a reader that differs from one of them ends the
+//! program.
 //!
 //! The texts: the cases of `cases/maps-to-try.txt` that the program's limits allow, the rooms of
 //! `rooms/`, the refusals, the limits exactly, and random rooms from SEED on, 1 unless told otherwise.
@@ -63,12 +64,15 @@ fn main() {
         fs::remove_dir_all(&data).expect("the old texts go");
     }
     fs::create_dir_all(&data).expect("a folder for the texts");
+    let mut names = String::new();
     let mut answers = String::new();
     for (number, text) in texts.iter().enumerate() {
         let name = format!("{number:03}");
         fs::write(data.join(&name), text).expect("a text is written");
-        answers += &format!("{name}\n{}", program(&UnchangedRust, text));
+        names += &format!("{name}\n");
+        answers += &program(&UnchangedRust, text);
     }
+    fs::write(Path::new(&folder).join("args"), &names).expect("the names are written");
     fs::write(Path::new(&folder).join("stdout"), &answers).expect("the answers are written");
     println!("{} texts, {} bytes of answers", texts.len(), answers.len());
 }

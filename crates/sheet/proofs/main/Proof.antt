@@ -1,54 +1,41 @@
--- `sheet::main`: what was read, and what is written out, is in its array.
-use mathlib.Core.Path.{sym}
-use Prim.Native.Nat.{ℕ}
-use native.Mathlib.Omega.{arith}
-use lib.ListN.{length-replicate}
-use lib.Seq.{length-take-le}
+-- `sheet::main` is safe and ends. The measure is the number of arguments that are left.
+use Prim.Native.Nat.{_-_}
 use borrow.Author.Needs.{needs}
 use Rattle.sheet.proofs.main.Statement.{statement}
 use Rattle.sheet.proofs.main.Tie as tie
 
-slice-aggregate-taken : tie.Need-slice-aggregate-taken
-slice-aggregate-taken c = sym (length-replicate {A = ℕ} _ 0)
+abbrev Inv-loop : tie.InvT-loop
+Inv-loop count argument₀ argument = Unit {0}
 
-taken-requires : tie.Need-taken-requires
-taken-requires c κs = omega (arith, length-replicate {A = ℕ} 8193 0)
+abbrev μ-loop : tie.MeasureT-loop
+μ-loop count argument₀ argument = count - argument
 
-array-share-prefix-text : tie.Need-array-share-prefix-text
-array-share-prefix-text c = c .before .taken .ensures
+arg-count-requires : tie.Need-arg-count-requires Inv-loop μ-loop
+arg-count-requires c κs = tt
 
-slice-aggregate-answer : tie.Need-slice-aggregate-answer
-slice-aggregate-answer c = let t = c .before .before .taken in sym (length-take-le _ (t .last .0) (t .ensures))
+shown-requires : tie.Need-shown-requires Inv-loop μ-loop
+shown-requires c κs = tt
 
-slice-aggregate-answer-2 : tie.Need-slice-aggregate-answer-2
-slice-aggregate-answer-2 c = sym (length-replicate {A = ℕ} _ 0)
+returns : tie.Need-returns Inv-loop μ-loop
+returns c = tt
 
-answer-requires : tie.Need-answer-requires
-answer-requires c κs = omega (arith, length-replicate {A = ℕ} 200000 0)
+loop-holds : tie.Need-loop-holds Inv-loop μ-loop
+loop-holds c = tt
 
-array-share-prefix-out : tie.Need-array-share-prefix-out
-array-share-prefix-out c = c .before .answer .ensures .1
+named-requires : tie.Need-named-requires Inv-loop μ-loop
+named-requires c κs = tt
 
-slice-aggregate-write-all : tie.Need-slice-aggregate-write-all
-slice-aggregate-write-all c = let a = c .before .before .answer in sym (length-take-le _ (a .last .1 .0) (a .ensures .1))
+add-argument : tie.Need-add-argument Inv-loop μ-loop
+add-argument c = search needs
 
-write-all-requires : tie.Need-write-all-requires
-write-all-requires c κs = search needs
+loop-less : tie.Need-loop-less Inv-loop μ-loop
+loop-less c = search needs
 
-returns : tie.Need-returns
-returns c = search needs
+loop-again : tie.Need-loop-again Inv-loop μ-loop
+loop-again c = tt
+
+returns-2 : tie.Need-returns-2 Inv-loop μ-loop
+returns-2 c = tt
 
 pub main-spec : {M : Type 1} → statement M
-main-spec =
-    tie.close
-    (tie.spec
-    slice-aggregate-taken
-    taken-requires
-    array-share-prefix-text
-    slice-aggregate-answer
-    slice-aggregate-answer-2
-    answer-requires
-    array-share-prefix-out
-    slice-aggregate-write-all
-    write-all-requires
-    returns)
+main-spec = tie.close (tie.spec Inv-loop μ-loop arg-count-requires shown-requires returns loop-holds named-requires add-argument loop-less loop-again returns-2)
