@@ -1,3 +1,2 @@
--- What a ground asks, and version buffers.
+-- What a ground asks.
 pub mod Grounds
-pub mod Versions

@@ -25,8 +25,8 @@ use Rattle.row.specs.Buffers.{groundOf}
 use Rattle.sweep.specs.Buffers.{runOf, Stops}
 use Rattle.plan.specs.declared.site.Site.{Site}
 use Rattle.grounds.specs.Grounds.{unreachableLevels}
-use Rattle.make.specs.Makes.{quietRows, Versioned, RelaxFits, Relaxed, lent, siteCall, MakeFits}
-use Rattle.grounds.proofs.Grounds.{limits}
+use Rattle.relax.specs.Relaxes.{Versioned, RelaxFits, Relaxed}
+use Rattle.make.specs.Makes.{quietRows, lent, siteCall, MakeFits}
 use Rattle.make.proofs.Made as Made
 
 -- lanes that were made in the first n entries of a buffer: the entries past those stay
@@ -125,12 +125,11 @@ module _ (s : Site) (cells : List ℕ) (blockers resources : List ℤ) (before :
     begun-is = begun ∙ ap (λ (v : Window). startedLevels (unreachableLevels v (levelAt part)) (lanesHit v walk rows (s .width) (s .height) resources (length resources / 4))) over
 
     -- ---- what the sweeps ask
-    pub relax-fits : RelaxFits s started flags rows (before .versions) (before .pulledDown) (before .pulledUp)
+    pub relax-fits : RelaxFits each (s .window .width + 2) (s .window .height) (quietRows s) started flags rows (before .versions) (before .pulledDown) (before .pulledUp)
     relax-fits =
-        let z = limits _ _ _ _ (fits .ground .site .on-map) _ (fits .ground .site .over) in
         let b = fits .versions in
         record {
-          wide = z .width;
+          above = omega (arith, lines, within);
           room = of-site (λ (w h : ℕ). sweep.Window each (w + 2) h rows (length started) (length flags) (length (before .versions)))
               (Made.sweep-room (s .width) (s .height) cells each blockers resources targets on (fits .start .few) (fits .start .site .count) walk-is flags-are rows-are part started begun-is (quietRows s) above within
               (length started) (length flags) (length (before .versions))

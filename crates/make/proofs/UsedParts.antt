@@ -21,7 +21,7 @@ use Rattle.window.proofs.Fills.{placed-front, placed-past}
 use Rattle.startcells.specs.Hits.{startedLevels}
 use Rattle.plainsweeps.proofs.Columns.{slot}
 use Rattle.plainsweeps.proofs.RowLevels.{Holds}
-use Rattle.grounds.specs.Versions.{never, BeforeSweeps}
+use Rattle.versions.specs.Versions.{never, BeforeSweeps}
 use Rattle.make.proofs.LanesMade.{baseOf}
 use Rattle.make.proofs.Started.{Unpulled}
 

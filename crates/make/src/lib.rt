@@ -1,53 +1,11 @@
 // The field made: the ground, the start, the sweeps.
-use grounds::ground;
-use grounds::versions;
+use grounds;
 use plan::site::Site;
-use sweep::run;
+use relax;
+use versions;
 use window::record;
-ghost use Prim.Native.Nat.{_+_};
-ghost use Rattle.row.specs.Buffers.{groundOf};
 ghost use Rattle.walkgraph.specs.Buffers.{FieldMade};
-ghost use Rattle.make.specs.Makes.{quietRows, RelaxFits, Relaxed, lent, siteCall, MakeFits};
-
-// The sweeps over a site, with versions made before them and cleared after them: how many.
-pub fn relax(
-    site: Site,
-    lanes: &mut [i16],
-    flags: &[u8],
-    rows: &[u16],
-    versions: &mut [u32],
-    pulled_down: &mut [u32],
-    pulled_up: &mut [u32],
-) -> usize
-    requires { ⌜ RelaxFits site (now lanes) (now flags) (now rows) (now versions) (now «pulled_down») (now «pulled_up») ⌝ }
-    ensures { λ r. ⌜ Relaxed (groundOf (site .window .lanes) (site .window .width + 2) (now (flags .entry)) (now (rows .entry))) (site .window .height) (quietRows site)
-        (now (lanes .entry)) (now (versions .entry)) (now («pulled_down» .entry)) (now («pulled_up» .entry))
-        (now (lanes .exit)) (now (versions .exit)) (now («pulled_down» .exit)) (now («pulled_up» .exit)) r ⌝ }
-{
-    let window = site.window;
-    let sources = site.sources;
-    let height = window.height;
-    versions::unpulled(
-        versions,
-        pulled_down,
-        pulled_up,
-        height,
-        versions::above(window, sources),
-    );
-    let sweeps = run::run(
-        lanes,
-        flags,
-        rows,
-        versions,
-        pulled_down,
-        pulled_up,
-        window.lanes,
-        record::stride(window),
-        height,
-    );
-    versions::cleared(versions, pulled_down, pulled_up, height);
-    sweeps
-}
+ghost use Rattle.make.specs.Makes.{lent, siteCall, MakeFits};
 
 // The field of a site, in the buffers: how many sweeps made it.
 pub fn make(
@@ -69,8 +27,20 @@ pub fn make(
         (lent (now (lanes .exit)) (now (walk .exit)) (now (flags .exit)) (now (rows .exit)) (now (versions .exit)) (now («pulled_down» .exit)) (now («pulled_up» .exit))) r ⌝ }
 {
     let window = site.window;
+    let sources = site.sources;
     let used = &mut lanes[..record::padded(window) * window.lanes];
-    ground::ground(site, cells, blockers, walk, flags);
-    ground::begin(site, resources, used, walk, rows);
-    relax(site, used, flags, rows, versions, pulled_down, pulled_up)
+    grounds::ground(site, cells, blockers, walk, flags);
+    grounds::begin(site, resources, used, walk, rows);
+    relax::relax(
+        window.lanes,
+        record::stride(window),
+        window.height,
+        versions::above(window, sources),
+        used,
+        flags,
+        rows,
+        versions,
+        pulled_down,
+        pulled_up,
+    )
 }

@@ -1,4 +1,4 @@
--- `grounds::versions::unpulled`: each buffer by the numbers that were written to it.
+-- `versions::unpulled`: each buffer by the numbers that were written to it.
 use mathlib.Core.Path.{_∙_, ap}
 use Prim.Native.Nat.{ℕ, _+_, _-_}
 use borrow.Author.Needs.{needs}
@@ -6,9 +6,9 @@ use native.Mathlib.Omega.{arith}
 use denote.Ref.{now}
 use Rattle.walkgraph.specs.Lists.{placed}
 use Rattle.window.specs.Fills.{entries, zeros}
-use Rattle.grounds.specs.Versions.{never}
-use Rattle.grounds.proofs.versions.unpulled.Statement.{statement}
-use Rattle.grounds.proofs.versions.unpulled.Tie as tie
+use Rattle.versions.specs.Versions.{never}
+use Rattle.versions.proofs.unpulled.Statement.{statement}
+use Rattle.versions.proofs.unpulled.Tie as tie
 
 add-set : tie.Need-add-set
 add-set c = search needs

@@ -1,4 +1,4 @@
--- `grounds::ground::begin`: the intervals end in their rows, so the lanes have room to start.
+-- `grounds::begin`: the intervals end in their rows, so the lanes have room to start.
 use Prim.Native.Nat.{_*_, _/_, _≤_}
 use native.Mathlib.Omega.{arith}
 use lib.ListN.{length}
@@ -8,8 +8,8 @@ use Rattle.lane.specs.Levels.{levelAt}
 use Rattle.window.specs.Fills.{entries}
 use Rattle.start.specs.Hits.{lanesHit}
 use Rattle.grounds.proofs.Grounds.{limits, lanes-small, site-row-ends, site-room, levels-begun}
-use Rattle.grounds.proofs.ground.begin.Statement.{statement}
-use Rattle.grounds.proofs.ground.begin.Tie as tie
+use Rattle.grounds.proofs.begin.Statement.{statement}
+use Rattle.grounds.proofs.begin.Tie as tie
 
 write-rows-requires : tie.Need-write-rows-requires
 write-rows-requires c κs =

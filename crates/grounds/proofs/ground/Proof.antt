@@ -1,11 +1,11 @@
--- `grounds::ground::ground`: each fill finds what the one before left, and the flags find walk bytes that are 0 or 1.
+-- `grounds::ground`: each fill finds what the one before left, and the flags find walk bytes that are 0 or 1.
 use native.Mathlib.Omega.{arith}
 use denote.Ref.{now}
 use borrow.Author.Needs.{needs}
 use Rattle.window.specs.Fills.{entries}
 use Rattle.grounds.proofs.Grounds.{limits, site-copies, site-paints, site-flag-rows, walk-filled, flags-filled}
-use Rattle.grounds.proofs.ground.ground.Statement.{statement}
-use Rattle.grounds.proofs.ground.ground.Tie as tie
+use Rattle.grounds.proofs.ground.Statement.{statement}
+use Rattle.grounds.proofs.ground.Tie as tie
 
 padded-requires : tie.Need-padded-requires
 padded-requires c κs =

@@ -1,4 +1,4 @@
--- `grounds::versions::set`: the entries that the loop passed hold the number, and the others stay.
+-- `versions::set`: the entries that the loop passed hold the number, and the others stay.
 use mathlib.Core.Path.{_≡_, refl}
 use Prim.Native.Nat.{ℕ, _+_, _-_, _≤_}
 use native.Mathlib.Omega.{arith}
@@ -6,8 +6,8 @@ use lib.ListN.{length, length-set}
 use Rattle.walkgraph.specs.Lists.{placed}
 use Rattle.window.specs.Fills.{entries}
 use Rattle.window.proofs.Fills.{placed-none, placed-store}
-use Rattle.grounds.proofs.versions.set.Statement.{statement}
-use Rattle.grounds.proofs.versions.set.Tie as tie
+use Rattle.versions.proofs.set.Statement.{statement}
+use Rattle.versions.proofs.set.Tie as tie
 
 abbrev Inv-loop : tie.InvT-loop
 Inv-loop numbers₀ from count number k₀ numbers k = (k ≤ count) × (length numbers ≡ length numbers₀) × (entries numbers ≡ placed (entries numbers₀) from k (λ (i : ℕ). number))

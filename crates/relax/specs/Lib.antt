@@ -1,0 +1,2 @@
+-- What the sweeps of a field ask of its buffers, and what they leave.
+pub mod Relaxes

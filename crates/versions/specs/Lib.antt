@@ -1,0 +1,2 @@
+-- Version buffers.
+pub mod Versions
