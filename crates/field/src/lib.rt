@@ -76,5 +76,5 @@ pub fn field(
         pulled_down,
         pulled_up,
     );
-    Answer::Made { window, sweeps }
+    fieldanswer::made(window, sweeps)
 }

@@ -1,8 +1,10 @@
-// What the field call answers, and its answer where no field is made.
+// What the field call answers: where a field is made, and where none is.
 use plan::Plan;
 use window::record;
 use window::record::Window;
 ghost use mathlib.Core.Path.{_≡_};
+ghost use Rattle.walkgraph.specs.Promise.{made};
+ghost use Rattle.window.specs.Windows.{asRecord};
 ghost use Rattle.fieldanswer.specs.Answers.{answerOf, unmadeAnswer};
 
 // A refusal's number and place, or the window record and the sweep count.
@@ -22,4 +24,11 @@ pub fn unmade(plan: Plan, lanes: usize) -> Answer
         window: record::nothing(lanes),
         sweeps: 0,
     }
+}
+
+// The answer where a field is made: its window and its sweeps.
+pub fn made(window: Window, sweeps: usize) -> Answer
+    ensures { λ r. ⌜ answerOf r ≡ made (asRecord window) sweeps ⌝ }
+{
+    Answer::Made { window, sweeps }
 }

@@ -11,7 +11,6 @@ use Rattle.rings.specs.Rings.{corners}
 use Rattle.plan.specs.declared.Lent as plan
 use Rattle.plan.specs.Plans.{inputOf, Lengths, PlanOf}
 use Rattle.make.specs.Makes.{lent}
-use Rattle.fieldanswer.specs.Answers.{answerOf}
 use Rattle.field.proofs.Calls.{call-unmade, make-fits, call-made}
 use Rattle.field.proofs.field.Statement.{statement}
 use Rattle.field.proofs.field.Tie as tie
@@ -68,35 +67,37 @@ make-requires c κs =
     let b = c .before .before .before .before .before .before .before .before .before .before .before .before .before .before .before .before .before .before .before in
     make-fits (input b) (lengths b) (before b) (same-lengths b) _ (rw (c .before .before .before .before .before .before .before .before .before .found .given .1) at (planned (c .before .before .before .before .before .before .before .before .before .before .before)))
 
+made-requires : tie.Need-made-requires
+made-requires c κs = tt
+
 same-length : tie.Need-same-length
-same-length c = c .before .before .before .before .before .before .before .before .before .before .before .before .before .make .kept .1 .1 .1 .1 .0
+same-length c = c .before .before .before .before .before .before .before .before .before .before .before .before .before .before .make .kept .1 .1 .1 .1 .0
 
 same-length-2 : tie.Need-same-length-2
-same-length-2 c = c .before .before .before .before .before .before .before .before .before .before .before .before .before .make .kept .1 .1 .1 .1 .1 .0
+same-length-2 c = c .before .before .before .before .before .before .before .before .before .before .before .before .before .before .make .kept .1 .1 .1 .1 .1 .0
 
 same-length-3 : tie.Need-same-length-3
-same-length-3 c = c .before .before .before .before .before .before .before .before .before .before .before .before .before .make .kept .1 .1 .1 .1 .1 .1 .0
+same-length-3 c = c .before .before .before .before .before .before .before .before .before .before .before .before .before .before .make .kept .1 .1 .1 .1 .1 .1 .0
 
 same-length-4 : tie.Need-same-length-4
-same-length-4 c = c .before .before .before .before .before .before .before .before .before .before .before .before .before .make .kept .1 .1 .1 .1 .1 .1 .1 .0
+same-length-4 c = c .before .before .before .before .before .before .before .before .before .before .before .before .before .before .make .kept .1 .1 .1 .1 .1 .1 .1 .0
 
 same-length-5 : tie.Need-same-length-5
-same-length-5 c = c .before .before .before .before .before .before .before .before .before .before .before .before .before .make .kept .1 .1 .1 .1 .1 .1 .1 .1 .0
+same-length-5 c = c .before .before .before .before .before .before .before .before .before .before .before .before .before .before .make .kept .1 .1 .1 .1 .1 .1 .1 .1 .0
 
 same-length-6 : tie.Need-same-length-6
-same-length-6 c = c .before .before .before .before .before .before .before .before .before .before .before .before .before .make .kept .1 .1 .1 .1 .1 .1 .1 .1 .1 .0
+same-length-6 c = c .before .before .before .before .before .before .before .before .before .before .before .before .before .before .make .kept .1 .1 .1 .1 .1 .1 .1 .1 .1 .0
 
 same-length-7 : tie.Need-same-length-7
-same-length-7 c = c .before .before .before .before .before .before .before .before .before .before .before .before .before .make .kept .1 .1 .1 .1 .1 .1 .1 .1 .1 .1 .0
+same-length-7 c = c .before .before .before .before .before .before .before .before .before .before .before .before .before .before .make .kept .1 .1 .1 .1 .1 .1 .1 .1 .1 .1 .0
 
 returns-2 : tie.Need-returns-2
-unfolding answerOf
 returns-2 c =
-    let m = c .before .before .before .before .before .before .before .before .before .before .before .before .before in
+    let m = c .before .before .before .before .before .before .before .before .before .before .before .before .before .before in
     let b = m .before .before .before .before .before .before .before .before .before .before .before .before .before .before .before .before .before .before .before .before in
     let l = m .make .last .1 .1 .1 .1 in
-    call-made (input b) (lengths b) (before b) (same-lengths b) _ (rw (m .before .before .before .before .before .before .before .before .before .before .found .given .1) at (planned (m .before .before .before .before .before .before .before .before .before .before .before .before)))
-    {after = lent (l .0) (l .1 .0) (l .1 .1 .0) (l .1 .1 .1 .0) (l .1 .1 .1 .1 .0) (l .1 .1 .1 .1 .1 .0) (l .1 .1 .1 .1 .1 .1 .0)} (m .make .ensures)
+    rw (c .made .ensures) (call-made (input b) (lengths b) (before b) (same-lengths b) _ (rw (m .before .before .before .before .before .before .before .before .before .before .found .given .1) at (planned (m .before .before .before .before .before .before .before .before .before .before .before .before)))
+    {after = lent (l .0) (l .1 .0) (l .1 .1 .0) (l .1 .1 .1 .0) (l .1 .1 .1 .1 .0) (l .1 .1 .1 .1 .1 .0) (l .1 .1 .1 .1 .1 .1 .0)} (m .make .ensures))
 
 pub field-spec : {M : Type 1} → statement M
 field-spec =
@@ -107,6 +108,7 @@ field-spec =
     unmade-requires
     returns
     make-requires
+    made-requires
     same-length
     same-length-2
     same-length-3
