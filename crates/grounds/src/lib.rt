@@ -1,9 +1,10 @@
 // The ground of a field: its walk bytes, flags and row intervals, and its lanes before the first sweep.
 use intervals::rows;
+use painting;
+use paintrows;
 use plan::site::Site;
 use start;
-use walkbytes::paint;
-use walkbytes::walk;
+use walkbytes;
 use window::record;
 ghost use mathlib.Core.Path.{_≡_};
 ghost use Prim.Native.Nat.{_/_};
@@ -26,10 +27,10 @@ pub fn ground(site: Site, cells: &[u8], blockers: &[i32], walk: &mut [u8], flags
 {
     let window = site.window;
     let count = record::padded(window);
-    walk::clear(walk, count);
-    walk::copy_rows(cells, walk, window, site.width);
-    paint::paint(walk, blockers, window, site.width, site.height);
-    walk::clear(flags, count);
+    paintrows::paint_row(walk, 0, count);
+    walkbytes::copy_rows(cells, walk, window, site.width);
+    painting::paint(walk, blockers, window, site.width, site.height);
+    paintrows::paint_row(flags, 0, count);
     flags::flag_rows(walk, flags, window);
 }
 

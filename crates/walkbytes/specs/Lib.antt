@@ -1,4 +1,3 @@
--- What the contracts of this crate speak of: the map's cells in the window, and their painting.
+-- What the contracts of this crate speak of: the map's cells in the window, and with their painting.
 pub mod Copies
-pub mod Painting
 pub mod Filled

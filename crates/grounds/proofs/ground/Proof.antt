@@ -13,8 +13,8 @@ padded-requires c κs =
     let z = limits _ _ _ _ (g .on-map) _ (g .over) in
     (z .width, z .height)
 
-clear-requires : tie.Need-clear-requires
-clear-requires c κs = search needs
+paint-row-requires : tie.Need-paint-row-requires
+paint-row-requires c κs = λ x h. search needs
 
 copy-rows-requires : tie.Need-copy-rows-requires
 copy-rows-requires c κs =
@@ -27,15 +27,15 @@ paint-requires c κs =
     let g = p .site in
     (site-paints _ _ _ _ (g .on-map) _ (g .over) _ (omega (arith, p .walk-in)), g .on-map .wide, g .on-map .high)
 
-clear-requires-2 : tie.Need-clear-requires-2
-clear-requires-2 c κs = search needs
+paint-row-requires-2 : tie.Need-paint-row-requires-2
+paint-row-requires-2 c κs = λ x h. search needs
 
 flag-rows-requires : tie.Need-flag-rows-requires
 flag-rows-requires c κs =
     let p = c .before .before .before .before .before .before .before .before .before .before .before .before .before .before .before .before .before .before .before .before .before .before .before .pre in
     let a = c .before .before .before .before .before .before .before .before .before .before .before .before .before .before .before .before .before .before .before .before .before .before .before .args in
     let s = a .site in
-    let e = walk-filled (s .window) (s .width) (s .height) (now (a .cells)) (now (a .blockers)) (entries (now (a .walk))) (c .before .before .before .before .before .before .before .before .before .before .before .before .before .before .before .before .before .before .padded .result) (c .before .before .before .before .before .before .before .before .before .before .before .before .before .before .before .before .before .before .padded .ensures) (c .before .before .before .before .before .before .before .before .before .before .before .before .before .before .before .before .clear .ensures) (c .before .before .before .before .before .before .before .before .before .before .before .before .copy-rows .ensures) (c .before .before .before .before .before .before .before .before .paint .ensures) in
+    let e = walk-filled (s .window) (s .width) (s .height) (now (a .cells)) (now (a .blockers)) (entries (now (a .walk))) (c .before .before .before .before .before .before .before .before .before .before .before .before .before .before .before .before .before .before .padded .result) (c .before .before .before .before .before .before .before .before .before .before .before .before .before .before .before .before .before .before .padded .ensures) (c .before .before .before .before .before .before .before .before .before .before .before .before .before .before .before .before .paint-row .ensures) (c .before .before .before .before .before .before .before .before .before .before .before .before .copy-rows .ensures) (c .before .before .before .before .before .before .before .before .paint .ensures) in
     site-flag-rows _ _ _ _ (p .site .on-map) _ (p .site .over) (now (a .cells)) (now (a .blockers)) (entries (now (a .walk))) _ _ (p .bits) e (omega (arith, p .walk-in)) (omega (arith, p .flags-in))
 
 same-length : tie.Need-same-length
@@ -49,8 +49,8 @@ returns c =
     let a = c .before .before .before .before .before .before .before .before .before .before .before .before .before .before .before .before .before .before .before .before .before .before .before .before .before .before .args in
     let s = a .site in
     let n = c .before .before .before .before .before .before .before .before .before .before .before .before .before .before .before .before .before .before .before .before .before .padded in (
-      walk-filled (s .window) (s .width) (s .height) (now (a .cells)) (now (a .blockers)) (entries (now (a .walk))) (n .result) (n .ensures) (c .before .before .before .before .before .before .before .before .before .before .before .before .before .before .before .before .before .before .before .clear .ensures) (c .before .before .before .before .before .before .before .before .before .before .before .before .before .before .before .copy-rows .ensures) (c .before .before .before .before .before .before .before .before .before .before .before .paint .ensures),
-      flags-filled (s .window) _ (entries (now (a .flags))) (n .result) (n .ensures) (c .before .before .before .before .before .before .before .clear2 .ensures) (c .before .before .flag-rows .ensures),
+      walk-filled (s .window) (s .width) (s .height) (now (a .cells)) (now (a .blockers)) (entries (now (a .walk))) (n .result) (n .ensures) (c .before .before .before .before .before .before .before .before .before .before .before .before .before .before .before .before .before .before .before .paint-row .ensures) (c .before .before .before .before .before .before .before .before .before .before .before .before .before .before .before .copy-rows .ensures) (c .before .before .before .before .before .before .before .before .before .before .before .paint .ensures),
+      flags-filled (s .window) _ (entries (now (a .flags))) (n .result) (n .ensures) (c .before .before .before .before .before .before .before .paint-row2 .ensures) (c .before .before .flag-rows .ensures),
     )
 
 pub ground-spec : {M : Type 1} → statement M
@@ -58,10 +58,10 @@ ground-spec =
     tie.close
     (tie.spec
     padded-requires
-    clear-requires
+    paint-row-requires
     copy-rows-requires
     paint-requires
-    clear-requires-2
+    paint-row-requires-2
     flag-rows-requires
     same-length
     same-length-2

@@ -1,35 +1,13 @@
 // Painting: blockers make walk bytes unwalkable.
 use cells::edge;
+use paintrows;
 use window::record;
 use window::record::Window;
 ghost use mathlib.Core.Path.{_≡_};
-ghost use Prim.Native.Nat.{ℕ, _+_, _/_, _≤_, _<_};
+ghost use Prim.Native.Nat.{_/_, _≤_};
 ghost use lib.ListN.{length};
-ghost use Rattle.walkgraph.specs.Lists.{placed};
-ghost use Rattle.window.specs.Fills.{entries, zeros, rowsPlaced};
-ghost use Rattle.walkbytes.specs.Painting.{PaintRows, Paints, Pixels, boxPainted, blockersPainted};
-
-// Writes 0 to count bytes from an index on.
-pub fn paint_row(walk: &mut [u8], from: usize, count: usize)
-    requires { ⌜ ((x : ℕ) → x < count → from + x < length (now walk)) ⌝ }
-    ensures { λ _. ⌜ entries (now (walk .exit)) ≡ placed (entries (now (walk .entry))) from count zeros ⌝ }
-{
-    for x in 0..count {
-        walk[from + x] = 0;
-    }
-}
-
-// Paints rows of count bytes, the first from an index on.
-pub fn paint_rows(walk: &mut [u8], stride: usize, first: usize, rows: usize, count: usize)
-    requires { ⌜ PaintRows stride first rows count (length (now walk)) ⌝ }
-    ensures { λ _. ⌜ entries (now (walk .exit)) ≡ rowsPlaced (entries (now (walk .entry))) first stride rows count (λ _. zeros) ⌝ }
-{
-    let mut from = first;
-    for y in 0..rows {
-        paint_row(walk, from, count);
-        from += stride;
-    }
-}
+ghost use Rattle.window.specs.Fills.{entries};
+ghost use Rattle.painting.specs.Painting.{Paints, Pixels, boxPainted, blockersPainted};
 
 // Paints the cells of a rectangle of clamped pixels that lie in the window.
 pub fn paint_box(
@@ -55,7 +33,7 @@ pub fn paint_box(
     let x1 = edge::least(edge::cell_past(right), window.left + window.width);
     let y1 = edge::least(edge::cell_past(bottom), window.top + window.height);
     let first = (y0 - window.top + 1) * stride + (x0 - window.left + 1);
-    paint_rows(walk, stride, first, edge::past(y0, y1), edge::past(x0, x1));
+    paintrows::paint_rows(walk, stride, first, edge::past(y0, y1), edge::past(x0, x1));
 }
 
 // Paints all blockers, on a map of width by height.

@@ -14,7 +14,8 @@ use Rattle.walkgraph.specs.Painting.{rectangle, clamp}
 use Rattle.walkgraph.proofs.Places.{flat-lt}
 use Rattle.window.specs.declared.record.Window.{Window}
 use Rattle.window.specs.Fills.{zeros, rowsPlaced}
-use Rattle.walkbytes.specs.Painting.{PaintRows, Paints, Pixels, fromCell, pastCell, boxPainted, blockersPainted}
+use Rattle.paintrows.specs.PaintRows.{PaintRows}
+use Rattle.painting.specs.Painting.{Paints, Pixels, fromCell, pastCell, boxPainted, blockersPainted}
 
 clamp-most : (limit : ℕ) (z : ℤ) → clamp limit z ≤ limit
 unfolding clamp

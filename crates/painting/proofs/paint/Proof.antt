@@ -1,4 +1,4 @@
--- `walkbytes::paint::paint`: the blockers that the loop passed are painted.
+-- `painting::paint`: the blockers that the loop passed are painted.
 use mathlib.Core.Path.{_≡_, refl}
 use Prim.Native.Nat.{_+_, _*_, _-_, _/_, _≤_}
 use native.Mathlib.Omega.{arith}
@@ -9,10 +9,10 @@ use mir.ValLaws.{toZ-ofZ}
 use denote.Ref.{now}
 use borrow.Author.Needs.{sfits-of}
 use Rattle.window.specs.Fills.{entries}
-use Rattle.walkbytes.specs.Painting.{blockersPainted}
-use Rattle.walkbytes.proofs.Boxed.{FourPlaces, four-places, clamped, blockers-none, blockers-more}
-use Rattle.walkbytes.proofs.paint.paint.Statement.{statement}
-use Rattle.walkbytes.proofs.paint.paint.Tie as tie
+use Rattle.painting.specs.Painting.{blockersPainted}
+use Rattle.painting.proofs.Boxed.{FourPlaces, four-places, clamped, blockers-none, blockers-more}
+use Rattle.painting.proofs.paint.Statement.{statement}
+use Rattle.painting.proofs.paint.Tie as tie
 
 abbrev Inv-loop : tie.InvT-loop
 Inv-loop walk₀ blockers window width height k₀ k-end walk k =

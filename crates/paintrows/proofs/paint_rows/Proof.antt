@@ -1,12 +1,12 @@
--- `walkbytes::paint::paint_rows`: the rows that the loop passed are 0; where the next one starts.
+-- `paintrows::paint_rows`: the rows that the loop passed are 0; where the next one starts.
 use mathlib.Core.Path.{_≡_, refl}
 use Prim.Native.Nat.{_+_, _*_, _-_, _≤_}
 use native.Mathlib.Omega.{arith}
 use lib.ListN.{length}
 use Rattle.window.specs.Fills.{entries, zeros, rowsPlaced}
 use Rattle.window.proofs.Fills.{rows-none, rows-more, next-row, rows-up}
-use Rattle.walkbytes.proofs.paint.paint_rows.Statement.{statement}
-use Rattle.walkbytes.proofs.paint.paint_rows.Tie as tie
+use Rattle.paintrows.proofs.paint_rows.Statement.{statement}
+use Rattle.paintrows.proofs.paint_rows.Tie as tie
 
 abbrev Inv-loop : tie.InvT-loop
 Inv-loop walk₀ stride first rows count from₀ y₀ walk from y =

@@ -1,4 +1,4 @@
--- `walkbytes::paint::paint_row`: the bytes that the loop passed are 0, and the others stay.
+-- `paintrows::paint_row`: the bytes that the loop passed are 0, and the others stay.
 use mathlib.Core.Path.{_≡_, refl}
 use Prim.Native.Nat.{_-_, _≤_}
 use native.Mathlib.Omega.{arith}
@@ -6,8 +6,8 @@ use lib.ListN.{length, length-set}
 use Rattle.walkgraph.specs.Lists.{placed}
 use Rattle.window.specs.Fills.{entries, zeros}
 use Rattle.window.proofs.Fills.{placed-none, placed-store}
-use Rattle.walkbytes.proofs.paint.paint_row.Statement.{statement}
-use Rattle.walkbytes.proofs.paint.paint_row.Tie as tie
+use Rattle.paintrows.proofs.paint_row.Statement.{statement}
+use Rattle.paintrows.proofs.paint_row.Tie as tie
 
 abbrev Inv-loop : tie.InvT-loop
 Inv-loop walk₀ from count x₀ walk x = (x ≤ count) × (length walk ≡ length walk₀) × (entries walk ≡ placed (entries walk₀) from x zeros)

@@ -1,17 +1,12 @@
 -- Painting in the window.
 use mathlib.Core.Bool.{cond, _&&_}
 use mathlib.Core.List.{List}
-use Prim.Native.Nat.{ℕ, zero, suc, _+_, _*_, _-_, _/_, _≤_, _<_, min, max}
+use Prim.Native.Nat.{ℕ, zero, suc, _+_, _*_, _-_, _/_, _≤_, min, max}
 use lib.IntN.{ℤ}
 use lib.Dec.{ltb}
 use Rattle.walkgraph.specs.Painting.{rectangle, clamp}
 use Rattle.window.specs.declared.record.Window.{Window}
 use Rattle.window.specs.Fills.{zeros, rowsPlaced}
-
--- every byte that is painted is in the buffer; where the rows are empty, they may start past its end
-pub record PaintRows (stride first rows count walk : ℕ) : Type 0 where
-  pub fits : first + rows * stride < 4294967296
-  pub each : (y x : ℕ) → y < rows → x < count → first + y * stride + x < walk
 
 -- the window is in the limits of a map, and its walk bytes are in the buffer
 pub record Paints (w : Window) (walk : ℕ) : Type 0 where

@@ -1,0 +1,3 @@
+-- The laws of painting.
+pub mod Boxed
+pub mod Painted

@@ -1,0 +1,2 @@
+-- Rows of walk bytes that can be painted.
+pub mod PaintRows
