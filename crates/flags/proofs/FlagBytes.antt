@@ -2,32 +2,14 @@
 use mathlib.Core.Path.{_≡_, sym, _∙_, ap}
 use mathlib.Core.List.{List}
 use Prim.Native.Nat.{ℕ, _+_, _*_, _-_, _≤_, _<_}
-use native.Mathlib.Nat.{mul-le-mul}
-use native.Mathlib.Decide.{ℕ-discrete}
 use native.Mathlib.Omega.{arith}
 use lib.ListN.{length, set, take, drop}
 use Rattle.walkgraph.specs.Lists.{placed}
-use Rattle.walkgraph.proofs.Tests.{by-cases}
 use Rattle.window.specs.Fills.{entries}
 use Rattle.window.specs.declared.record.Window.{Window}
-use Rattle.flags.specs.Flags.{flagsOf, flagAt, FlagRowAt, FlagRows}
+use Rattle.cellflags.specs.CellFlags.{flagsOf}
+use Rattle.flags.specs.Flags.{flagAt, FlagRowAt, FlagRows}
 use Rattle.window.proofs.Fills.{placed-store, placed-front, part-entries, row-room}
-
--- two bytes that are 0 or 1, and the flag that both of them set
-pub bit-product : (a b : ℕ) → a ≤ 1 → b ≤ 1 → a * b ≤ 1
-bit-product a b p q = mul-le-mul p q
-
-pub both-bits : (a b flag : ℕ) → a ≤ 1 → b ≤ 1 → a + b ≡ 2 → flag ≡ flag * (a * b)
-both-bits a b flag p q e =
-    let f : a ≡ 1 = omega arith in
-    let g : b ≡ 1 = omega arith in
-    rw (f, g) (omega arith)
-
-pub not-both : (a b flag : ℕ) → a ≤ 1 → b ≤ 1 → ¬ (a + b ≡ 2) → 0 ≡ flag * (a * b)
-not-both a b flag p q n =
-    by-cases (ℕ-discrete a 0)
-    (λ e. rw e (omega arith))
-    (λ e. let f : b ≡ 0 = by-cases (ℕ-discrete b 0) (λ g. g) (λ g. absurd (n (omega arith))) in rw f (omega arith))
 
 -- the flags at an index, by the indices of its neighbours
 pub flag-at : (walk : ℕ → ℕ) (stride i c w e n s : ℕ) → i ≡ c → i - 1 ≡ w → i + 1 ≡ e → i - stride ≡ n → i + stride ≡ s →

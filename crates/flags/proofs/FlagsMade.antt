@@ -11,7 +11,8 @@ use Rattle.walkgraph.specs.Buffers.{bit, walkByte, flagByte, cellPlace, paddedC
 use Rattle.walkgraph.proofs.Tests.{by-cases, decT, cond-true, cond-false}
 use Rattle.walkgraph.proofs.Boxes.{in-box, box-in}
 use Rattle.window.specs.declared.record.Window.{Window}
-use Rattle.flags.specs.Flags.{flagsOf, flagRows, flagsFilled}
+use Rattle.cellflags.specs.CellFlags.{flagsOf}
+use Rattle.flags.specs.Flags.{flagRows, flagsFilled}
 use Rattle.window.specs.Fills.{cleared}
 use Rattle.window.proofs.Places.{window-in, window-out, window-past, cleared-at, cleared-past}
 use Rattle.flags.proofs.FlagBytes.{flag-at}

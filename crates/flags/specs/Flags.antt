@@ -2,12 +2,9 @@
 use mathlib.Core.List.{List}
 use Prim.Native.Nat.{ℕ, _+_, _*_, _-_, _≤_}
 use lib.ListN.{length}
+use Rattle.cellflags.specs.CellFlags.{flagsOf}
 use Rattle.window.specs.Fills.{AreBits, cleared, windowRows}
 use Rattle.window.specs.declared.record.Window.{Window}
-
--- "walkable 1, plus 2, 4, 8, 16 for a NW, NE, SW, SE move into it": a product of two such bytes is 1 exactly where both are
-unfoldable pub flagsOf : (cell west east north south : ℕ) → ℕ
-flagsOf cell west east north south = cell + 2 * (west * north) + 4 * (east * north) + 8 * (west * south) + 16 * (east * south)
 
 -- the flags of the cell at an index, where a row has `stride` cells
 unfoldable pub flagAt : (ℕ → ℕ) → ℕ → ℕ → ℕ

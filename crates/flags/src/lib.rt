@@ -1,32 +1,13 @@
-// Flags: walkable 1, plus 2, 4, 8, 16 for a move from the NW, NE, SW, SE whose two side cells are walkable.
+// The flags of a window, row by row.
+use cellflags;
 use window::record;
 use window::record::Window;
 ghost use mathlib.Core.Path.{_≡_};
-ghost use Prim.Native.Nat.{_+_, _*_, _≤_};
+ghost use Prim.Native.Nat.{_+_};
 ghost use lib.ListN.{length};
 ghost use Rattle.walkgraph.specs.Lists.{placed};
 ghost use Rattle.window.specs.Fills.{entries, windowRows};
-ghost use Rattle.flags.specs.Flags.{flagsOf, flagAt, FlagRow, FlagRowAt, FlagRows, flagRows};
-
-// The flag of a diagonal move, by its two side cells.
-pub fn corner(one: u8, other: u8, flag: u8) -> u8
-    requires { ⌜ (one ≤ 1) × (other ≤ 1) ⌝ }
-    ensures { λ r. ⌜ r ≡ flag * (one * other) ⌝ }
-{
-    if one + other == 2 { flag } else { 0 }
-}
-
-// The flags of a cell.
-pub fn flags_of(cell: u8, west: u8, east: u8, north: u8, south: u8) -> u8
-    requires { ⌜ (cell ≤ 1) × (west ≤ 1) × (east ≤ 1) × (north ≤ 1) × (south ≤ 1) ⌝ }
-    ensures { λ r. ⌜ r ≡ flagsOf cell west east north south ⌝ }
-{
-    cell
-        + corner(west, north, 2)
-        + corner(east, north, 4)
-        + corner(west, south, 8)
-        + corner(east, south, 16)
-}
+ghost use Rattle.flags.specs.Flags.{flagAt, FlagRow, FlagRowAt, FlagRows, flagRows};
 
 // The flags of one row of count cells, from the three rows of walk bytes around it.
 pub fn flag_row(walk: &[u8], stride: usize, flags: &mut [u8], count: usize)
@@ -34,7 +15,7 @@ pub fn flag_row(walk: &[u8], stride: usize, flags: &mut [u8], count: usize)
     ensures { λ _. ⌜ entries (now (flags .exit)) ≡ placed (entries (now (flags .entry))) 0 count (λ x. flagAt (entries (now (walk .entry))) stride (stride + 1 + x)) ⌝ }
 {
     for x in 0..count {
-        flags[x] = flags_of(
+        flags[x] = cellflags::flags_of(
             walk[stride + x + 1],
             walk[stride + x],
             walk[stride + x + 2],

@@ -1,10 +1,10 @@
--- `flags::flags_of`: each diagonal move has its flag.
+-- `cellflags::flags_of`: each diagonal move has its flag.
 use native.Mathlib.Omega.{arith}
 use borrow.Author.Needs.{needs}
-use Rattle.flags.specs.Flags.{flagsOf}
-use Rattle.flags.proofs.FlagBytes.{bit-product}
-use Rattle.flags.proofs.flags_of.Statement.{statement}
-use Rattle.flags.proofs.flags_of.Tie as tie
+use Rattle.cellflags.specs.CellFlags.{flagsOf}
+use Rattle.cellflags.proofs.Bits.{bit-product}
+use Rattle.cellflags.proofs.flags_of.Statement.{statement}
+use Rattle.cellflags.proofs.flags_of.Tie as tie
 
 corner-requires : tie.Need-corner-requires
 corner-requires c κs = search needs

@@ -1,8 +1,8 @@
--- `flags::corner`: two bytes that are 0 or 1 add up to 2 exactly where both are 1.
+-- `cellflags::corner`: two bytes that are 0 or 1 add up to 2 exactly where both are 1.
 use borrow.Author.Needs.{needs}
-use Rattle.flags.proofs.FlagBytes.{both-bits, not-both}
-use Rattle.flags.proofs.corner.Statement.{statement}
-use Rattle.flags.proofs.corner.Tie as tie
+use Rattle.cellflags.proofs.Bits.{both-bits, not-both}
+use Rattle.cellflags.proofs.corner.Statement.{statement}
+use Rattle.cellflags.proofs.corner.Tie as tie
 
 add-if1 : tie.Need-add-if1
 add-if1 c = search needs

@@ -1,0 +1,2 @@
+-- The flags of a cell.
+pub mod CellFlags
