@@ -11,10 +11,10 @@ use Rattle.walkgraph.specs.Lanes.{bias, halfCostOf}
 use Rattle.walkgraph.proofs.Tests.{cond-ind, and-left, and-right}
 use Rattle.decimal.specs.Numbers.{decimalOf}
 use Rattle.lane.specs.Levels.{level}
-use Rattle.lane.specs.Costs.{costOf}
-use Rattle.lane.specs.declared.cost.Cost.{Cost}
-use Rattle.lane.specs.declared.cost.Cost.the-variants.{Half, Unreachable}
-use Rattle.lane.proofs.Costs.{cost-unreachable, half-level}
+use Rattle.halfcost.specs.Costs.{costOf}
+use Rattle.halfcost.specs.declared.Cost.{Cost}
+use Rattle.halfcost.specs.declared.Cost.the-variants.{Half, Unreachable}
+use Rattle.halfcost.proofs.Costs.{cost-unreachable, half-level}
 use Rattle.ringlists.specs.Places.{inOrder}
 use Rattle.ringlists.proofs.Places.{in-order-more, in-order-up, in-order-most}
 use Rattle.page.specs.Lines.{numberThen}

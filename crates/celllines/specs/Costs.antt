@@ -4,9 +4,9 @@ use Prim.Native.Nat.{ℕ}
 use lib.IntN.{ℤ, pos}
 use lib.ListN.{getD}
 use Rattle.decimal.specs.Numbers.{decimalOf}
-use Rattle.lane.specs.Costs.{costOf}
-use Rattle.lane.specs.declared.cost.Cost.{Cost}
-use Rattle.lane.specs.declared.cost.Cost.the-variants.{Half, Unreachable}
+use Rattle.halfcost.specs.Costs.{costOf}
+use Rattle.halfcost.specs.declared.Cost.{Cost}
+use Rattle.halfcost.specs.declared.Cost.the-variants.{Half, Unreachable}
 use Rattle.ringlists.specs.Places.{inOrder}
 use Rattle.page.specs.Lines.{numberThen}
 

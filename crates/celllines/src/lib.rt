@@ -1,7 +1,6 @@
 // The line of a cell: its column, its row, and what each resource's lane says. Each function answers the place after what it put.
 use decimalwrite::write;
-use lane::cost;
-use lane::cost::Cost;
+use halfcost::Cost;
 use page::bytes;
 ghost use Rattle.page.specs.Puts.{Puts, Room};
 ghost use Rattle.celllines.specs.Costs.{costText, costAt, costTexts, cellLine};
@@ -11,7 +10,7 @@ pub fn cost(page: &mut [u8], at: usize, lane: i16) -> usize
     requires { ⌜ Room (costText lane) at (now page) ⌝ }
     ensures { λ r. ⌜ Puts (costText lane) (now (page .entry)) at (now (page .exit)) r ⌝ }
 {
-    let held = cost::half_cost(lane);
+    let held = halfcost::half_cost(lane);
     let Cost::Half(half) = held else {
         return bytes::byte(page, at, b'-');
     };

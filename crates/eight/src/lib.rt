@@ -25,11 +25,8 @@ pub fn out(
     let mut same = [-1i16; 8];
     let mut beside = strip::load(lanes, i - 8);
     for n in 0..count {
-        let flag = gate::wide(flags[first + n]);
-        let old = strip::load(lanes, i);
-        let new = cell::out(lanes, gates, i, o, 8, flag, down, beside);
-        let still = strip::kept(same, old, new);
-        strip::store(lanes, i, new);
+        let new = cell::out(lanes, gates, i, o, 8, flags[first + n], down, beside);
+        let still = strip::put(lanes, i, new, same);
         same = still;
         beside = new;
         i += 8;
@@ -50,10 +47,8 @@ pub fn back(lanes: &mut [i16], flags: &[u8], gates: &[i16; 16], past: usize, cou
     for n in 0..count {
         i -= 8;
         f -= 1;
-        let old = strip::load(lanes, i);
-        let new = cell::back(lanes, gates, i, gate::wide(flags[f]), beside);
-        let still = strip::kept(same, old, new);
-        strip::store(lanes, i, new);
+        let new = strip::back(lanes, gates, i, beside, gate::walk_gate(flags[f]));
+        let still = strip::put(lanes, i, new, same);
         same = still;
         beside = new;
     }

@@ -1,7 +1,5 @@
--- Laws of lanes. For callers: Levels, Marks and Costs; the others serve this crate's own functions.
+-- Laws of lanes. Signed and Machine read signed numbers, Steps serves this crate's own functions.
 pub mod Signed
 pub mod Machine
 pub mod Steps
 pub mod Levels
-pub mod Marks
-pub mod Costs

@@ -1,3 +1,2 @@
 // Lanes: an i16 holds the half cost less 15,234, and 32,767 is unreachable.
-pub mod cost;
 pub mod value;

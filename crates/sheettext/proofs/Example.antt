@@ -7,7 +7,7 @@ use lib.ListN.{replicate}
 use Rattle.walkgraph.specs.Lanes.{bias, laneOf, halfCostOf}
 use Rattle.walkgraph.specs.Reading.{fits, inRecord, outsidePart, readPart}
 use Rattle.decimal.specs.Numbers.{digitsIn, digitsOf, decimalOf}
-use Rattle.lane.specs.Costs.{costOf}
+use Rattle.halfcost.specs.Costs.{costOf}
 use Rattle.reading.specs.Parts.{partOf}
 use Rattle.ringlists.specs.Places.{inOrder}
 use Rattle.page.specs.Lines.{numberThen, wordLine, fourLine, windowWord, windowLine, sweepsWord, sweepsLine, cellsWord, cellsLine, groupsWord, groupsLine, fieldLine}

@@ -25,15 +25,11 @@ pub fn out(
     let mut beside = strip::load(lanes, i - 16);
     let mut beside2 = strip::load(lanes, i - 8);
     for n in 0..count {
-        let flag = gate::wide(flags[first + n]);
-        let old = strip::load(lanes, i);
-        let old2 = strip::load(lanes, i + 8);
+        let flag = flags[first + n];
         let new = cell::out(lanes, gates, i, o, 16, flag, down, beside);
         let new2 = cell::out(lanes, gates, i + 8, o + 8, 16, flag, down, beside2);
-        let still = strip::kept(same, old, new);
-        let still2 = strip::kept(still, old2, new2);
-        strip::store(lanes, i, new);
-        strip::store(lanes, i + 8, new2);
+        let still = strip::put(lanes, i, new, same);
+        let still2 = strip::put(lanes, i + 8, new2, still);
         same = still2;
         beside = new;
         beside2 = new2;
@@ -56,15 +52,11 @@ pub fn back(lanes: &mut [i16], flags: &[u8], gates: &[i16; 16], past: usize, cou
     for n in 0..count {
         i -= 16;
         f -= 1;
-        let flag = gate::wide(flags[f]);
-        let old = strip::load(lanes, i);
-        let old2 = strip::load(lanes, i + 8);
-        let new = cell::back(lanes, gates, i, flag, beside);
-        let new2 = cell::back(lanes, gates, i + 8, flag, beside2);
-        let still = strip::kept(same, old, new);
-        let still2 = strip::kept(still, old2, new2);
-        strip::store(lanes, i, new);
-        strip::store(lanes, i + 8, new2);
+        let walk_gate = gate::walk_gate(flags[f]);
+        let new = strip::back(lanes, gates, i, beside, walk_gate);
+        let new2 = strip::back(lanes, gates, i + 8, beside2, walk_gate);
+        let still = strip::put(lanes, i, new, same);
+        let still2 = strip::put(lanes, i + 8, new2, still);
         same = still2;
         beside = new;
         beside2 = new2;

@@ -1,10 +1,13 @@
-// A strip: eight lanes of one cell, by value. What it does, it does lane by lane as `value` says.
+// A strip: eight lanes of one cell, by value. What it does, it does lane by lane as `one` says.
+pub mod one;
+
 use lane::value;
 ghost use mathlib.Core.Path.{_≡_};
 ghost use Prim.Native.Nat.{_+_, _≤_};
 ghost use lib.ListN.{length};
 ghost use lib.Seq.{paste};
-ghost use Rattle.strip.specs.Strips.{lanesAt, HasLevels, outAt, backAt};
+ghost use Rattle.lane.specs.Levels.{levelAt};
+ghost use Rattle.strip.specs.Strips.{lanesAt, HasLevels, SlantFits, outAt, backAt};
 ghost use Rattle.strip.specs.Marks.{HasMarks, keptAt, AreMarks, IsChanged};
 
 // The eight lanes at an index.
@@ -29,42 +32,50 @@ pub fn store(lanes: &mut [i16], at: usize, strip: [i16; 8])
     }
 }
 
-// The strip of a cell on the way out.
+// The strip of a walkable cell on the way out. Its lanes are at index i, those that feed it at over, west and east, and its gates at
+// west_gate and east_gate; beside is the strip of the cell that the way came from.
 pub fn out(
-    old: [i16; 8],
-    over: [i16; 8],
-    west: [i16; 8],
-    east: [i16; 8],
+    lanes: &[i16],
+    gates: &[i16],
+    i: usize,
+    over: usize,
+    west: usize,
+    east: usize,
     beside: [i16; 8],
-    west_gate: [i16; 8],
-    east_gate: [i16; 8],
-    walk_gate: [i16; 8],
+    west_gate: usize,
+    east_gate: usize,
 ) -> [i16; 8]
-    ensures { λ r. ⌜ HasLevels 8 r (outAt old over west east beside «west_gate» «east_gate» «walk_gate») ⌝ }
+    requires { ⌜ (i + 8 ≤ length (now lanes)) × (over + 8 ≤ length (now lanes))
+        × SlantFits west east «west_gate» «east_gate» (length (now lanes)) (length (now gates)) ⌝ }
+    ensures { λ r. ⌜ HasLevels 8 r
+        (λ k. outAt (levelAt (now (lanes .entry))) (levelAt (now (gates .entry))) i over west east (levelAt beside k) «west_gate» «east_gate» k) ⌝ }
 {
     let mut strip = [0i16; 8];
     for k in 0..8 {
-        strip[k] = value::out(
-            old[k],
-            over[k],
-            west[k],
-            east[k],
+        strip[k] = one::out(
+            lanes,
+            gates,
+            i,
+            over,
+            west,
+            east,
             beside[k],
-            west_gate[k],
-            east_gate[k],
-            walk_gate[k],
+            west_gate,
+            east_gate,
+            k,
         );
     }
     strip
 }
 
-// The strip of a cell on the way back.
-pub fn back(old: [i16; 8], beside: [i16; 8], walk_gate: [i16; 8]) -> [i16; 8]
-    ensures { λ r. ⌜ HasLevels 8 r (backAt old beside «walk_gate») ⌝ }
+// The strip of a cell on the way back: its lanes are at index i, and its gate at walk_gate.
+pub fn back(lanes: &[i16], gates: &[i16], i: usize, beside: [i16; 8], walk_gate: usize) -> [i16; 8]
+    requires { ⌜ (i + 8 ≤ length (now lanes)) × («walk_gate» + 8 ≤ length (now gates)) ⌝ }
+    ensures { λ r. ⌜ HasLevels 8 r (λ k. backAt (levelAt (now (lanes .entry))) (levelAt (now (gates .entry))) i (levelAt beside k) «walk_gate» k) ⌝ }
 {
     let mut strip = [0i16; 8];
     for k in 0..8 {
-        strip[k] = value::back(old[k], beside[k], walk_gate[k]);
+        strip[k] = one::back(lanes, gates, i, beside[k], walk_gate, k);
     }
     strip
 }
@@ -75,9 +86,19 @@ pub fn kept(same: [i16; 8], old: [i16; 8], new: [i16; 8]) -> [i16; 8]
 {
     let mut strip = [0i16; 8];
     for k in 0..8 {
-        strip[k] = value::kept(same[k], old[k], new[k]);
+        strip[k] = one::kept(same[k], old[k], new[k]);
     }
     strip
+}
+
+// Writes eight lanes at an index, and keeps the marks of those that it does not change.
+pub fn put(lanes: &mut [i16], at: usize, strip: [i16; 8], same: [i16; 8]) -> [i16; 8]
+    requires { ⌜ at + 8 ≤ length (now lanes) ⌝ }
+    ensures { λ r. ⌜ (now (lanes .exit) ≡ paste (now (lanes .entry)) at strip 8) × HasMarks 8 r (keptAt same (lanesAt (now (lanes .entry)) at 8) strip) ⌝ }
+{
+    let still = kept(same, load(lanes, at), strip);
+    store(lanes, at, strip);
+    still
 }
 
 // Whether some lane of what `kept` kept is 0: something changed.

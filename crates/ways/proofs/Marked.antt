@@ -9,11 +9,9 @@ use lib.IntN.{ℤ, pos, negsuc}
 use lib.ListN.{getD}
 use Rattle.walkgraph.specs.Lists.{placed}
 use Rattle.walkgraph.proofs.Lists.{placed-in, placed-below, placed-above, by-place}
-use Rattle.lane.specs.Marks.{keptMark}
-use Rattle.lane.proofs.Marks.{kept-still, kept-moved}
 use Rattle.strip.specs.Strips.{HasLevels}
-use Rattle.strip.specs.Marks.{keptAt, HasMarks, AreMarks, IsChanged}
-use Rattle.strip.proofs.Marks.{kept-marks}
+use Rattle.strip.specs.Marks.{keptMark, keptAt, HasMarks, AreMarks, IsChanged}
+use Rattle.strip.proofs.Marks.{kept-still, kept-moved, kept-marks}
 use Rattle.ways.specs.Row.{Differ, Tells}
 
 -- marks that are all -1 say that two buffers are the same, and one that is 0 that they differ

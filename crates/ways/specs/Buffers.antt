@@ -3,11 +3,12 @@ use mathlib.Core.Path.{_≡_}
 use mathlib.Core.List.{List}
 use Prim.Native.Nat.{ℕ, _+_, _*_, _≤_, _<_}
 use lib.IntN.{ℤ}
-use lib.ListN.{getD}
+use lib.ListN.{getD, length}
 use Rattle.lane.specs.Levels.{levelAt}
 
 -- the table of gates: eight shut ones, then eight that let levels through
 pub record Gates (table : List ℤ) : Type 0 where
+  pub long : length table ≡ 16
   pub shut : (k : ℕ) → k < 8 → levelAt table k ≡ 65535
   pub through : (k : ℕ) → k < 8 → levelAt table (8 + k) ≡ 0
 

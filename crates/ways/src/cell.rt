@@ -1,10 +1,9 @@
-// One strip of a cell, on the way out and on the way back.
+// One strip of a cell on the way out: a wall, or what its neighbours lead to.
 use crate::gate;
-ghost use Prim.Native.Nat.{_+_, _≤_};
 ghost use lib.ListN.{length};
 ghost use Rattle.lane.specs.Levels.{levelAt};
 ghost use Rattle.strip.specs.Strips.{HasLevels};
-ghost use Rattle.ways.specs.Row.{outLevels, backLevels};
+ghost use Rattle.ways.specs.Row.{outLevels};
 ghost use Rattle.ways.specs.Buffers.{Gates, CellFits};
 
 // The strip at index i on the way out: o is the index of the strip that feeds it, whose neighbours lie lane_count
@@ -15,7 +14,7 @@ pub fn out(
     i: usize,
     o: usize,
     lane_count: usize,
-    flag: usize,
+    flag: u8,
     down: bool,
     beside: [i16; 8],
 ) -> [i16; 8]
@@ -27,25 +26,14 @@ pub fn out(
     }
     let turned = gate::turned(flag, down);
     strip::out(
-        strip::load(lanes, i),
-        strip::load(lanes, o),
-        strip::load(lanes, o - lane_count),
-        strip::load(lanes, o + lane_count),
+        lanes,
+        gates,
+        i,
+        o,
+        o - lane_count,
+        o + lane_count,
         beside,
-        strip::load(gates, gate::west_gate(turned)),
-        strip::load(gates, gate::east_gate(turned)),
-        strip::load(gates, gate::walk_gate(flag)),
-    )
-}
-
-// The strip at index i on the way back.
-pub fn back(lanes: &[i16], gates: &[i16; 16], i: usize, flag: usize, beside: [i16; 8]) -> [i16; 8]
-    requires { ⌜ Gates (now gates) × (i + 8 ≤ length (now lanes)) ⌝ }
-    ensures { λ r. ⌜ HasLevels 8 r (backLevels flag (levelAt (now (lanes .entry))) i (levelAt beside)) ⌝ }
-{
-    strip::back(
-        strip::load(lanes, i),
-        beside,
-        strip::load(gates, gate::walk_gate(flag)),
+        gate::west_gate(turned),
+        gate::east_gate(turned),
     )
 }

@@ -28,35 +28,28 @@ pub fn gates() -> [i16; 16]
     ]
 }
 
-// A flag byte as an index.
-pub fn wide(flag: u8) -> usize
-    ensures { λ r. ⌜ r ≡ flag ⌝ }
-{
-    flag as usize
-}
-
 // The flags of a sweep's two diagonals, moved down to the bits 2 and 4.
-pub fn turned(flag: usize, down: bool) -> usize
+pub fn turned(flag: u8, down: bool) -> u8
     ensures { λ r. ⌜ r ≡ spec.turned down flag ⌝ }
 {
     if down { flag } else { flag / 4 }
 }
 
-// Where the gates of walking, of the diagonal from the left and of that from the right start.
-pub fn walk_gate(flag: usize) -> usize
+// Where the gates of a flag byte start: of walking, and of the diagonals from the left and from the right.
+pub fn walk_gate(flag: u8) -> usize
     ensures { λ r. ⌜ r ≡ flag % 2 * 8 ⌝ }
 {
-    flag % 2 * 8
+    flag as usize % 2 * 8
 }
 
-pub fn west_gate(flag: usize) -> usize
+pub fn west_gate(flag: u8) -> usize
     ensures { λ r. ⌜ r ≡ flag / 2 % 2 * 8 ⌝ }
 {
-    flag / 2 % 2 * 8
+    flag as usize / 2 % 2 * 8
 }
 
-pub fn east_gate(flag: usize) -> usize
+pub fn east_gate(flag: u8) -> usize
     ensures { λ r. ⌜ r ≡ flag / 4 % 2 * 8 ⌝ }
 {
-    flag / 4 % 2 * 8
+    flag as usize / 4 % 2 * 8
 }

@@ -6,7 +6,7 @@ use lib.IntN.{pos}
 use mir.Syntax.{w16}
 use mir.ValLaws.{toZ-ofZ}
 use Rattle.decimal.specs.Numbers.{decimalOf}
-use Rattle.lane.specs.Costs.{costOf}
+use Rattle.halfcost.specs.Costs.{costOf}
 use Rattle.page.proofs.Putting.{puts-number}
 use Rattle.celllines.specs.Costs.{costText}
 use Rattle.celllines.proofs.Lines.{text-none, text-half}

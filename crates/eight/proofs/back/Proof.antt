@@ -11,9 +11,9 @@ use Rattle.strip.specs.Strips.{HasLevels}
 use Rattle.strip.proofs.Strips.{levels-at}
 use Rattle.ways.specs.Row.{backLevels, backCell}
 use Rattle.ways.specs.Buffers.{flagAt}
-use Rattle.ways.proofs.Table.{below-eight}
+use Rattle.ways.proofs.Table.{below-eight, gate-in, gated-back}
 use Rattle.ways.proofs.Marked.{marked-start, marked-tells}
-use Rattle.ways.proofs.Passes.{BackTo, back-start, back-ahead, back-next, one-marked, one-stored, carried}
+use Rattle.ways.proofs.Passes.{BackTo, back-start, back-ahead, back-next, BackPlace, back-place, cell-next, cell-fits, cell-nearer, one-marked, one-stored, carried, below}
 use Rattle.eight.proofs.back.Statement.{statement}
 use Rattle.eight.proofs.back.Tie as tie
 
@@ -26,6 +26,10 @@ abbrev μ-loop : tie.MeasureT-loop
 
 long : (c : tie.After-back Inv-loop μ-loop) → length (c .back .result) ≡ 8
 long c = search needs
+
+-- the cell of the turn
+place : (c : tie.In-loop Inv-loop μ-loop) → BackPlace 8 (c .before .loop .n) (c .before .loop .i) (c .before .loop .f) (length (c .before .loop .lanes)) (length (now (c .before .before .before .before .before .args .flags))) (c .before .before .before .before .before .args .past)
+place c = back-place (c .before .before .before .before .before .pre .1) (c .loop-test .taken) (c .before .loop .inv .1) (c .before .loop .inv .2 .own) (c .before .loop .inv .2 .place)
 
 mul-i : tie.Need-mul-i Inv-loop μ-loop
 mul-i c = omega arith
@@ -43,53 +47,48 @@ loop-holds c =
     )
 
 sub-i : tie.Need-sub-i Inv-loop μ-loop
-sub-i c = omega arith
+sub-i c = place c .low
 
 sub-f : tie.Need-sub-f Inv-loop μ-loop
-sub-f c = omega arith
+sub-f c = place c .some
 
-load-requires-2 : tie.Need-load-requires-2 Inv-loop μ-loop
-load-requires-2 c κs = omega arith
+shared-slice-read-walk-gate : tie.Need-shared-slice-read-walk-gate Inv-loop μ-loop
+shared-slice-read-walk-gate c = place (c .before .before .before) .flag
 
-shared-slice-read-wide : tie.Need-shared-slice-read-wide Inv-loop μ-loop
-shared-slice-read-wide c = omega arith
-
-wide-requires : tie.Need-wide-requires Inv-loop μ-loop
-wide-requires c κs = tt
+walk-gate-requires : tie.Need-walk-gate-requires Inv-loop μ-loop
+walk-gate-requires c κs = tt
 
 back-requires : tie.Need-back-requires Inv-loop μ-loop
-back-requires c κs = (c .before .before .before .before .before .before .before .before .before .before .pre .0, omega (arith, c .before .before .before .before .before .before))
+back-requires c κs = (place (c .before .before .before .before) .own, gate-in (c .before .before .before .before .before .before .before .before .before .pre .0) _ (c .walk-gate .ensures))
 
-kept-requires : tie.Need-kept-requires Inv-loop μ-loop
-kept-requires c κs = tt
-
-store-requires : tie.Need-store-requires Inv-loop μ-loop
-store-requires c κs = omega arith
+put-requires : tie.Need-put-requires Inv-loop μ-loop
+put-requires c κs = place (c .before .before .before .before .before .before) .own
 
 add-n : tie.Need-add-n Inv-loop μ-loop
-add-n c = omega arith
+add-n c = cell-fits _ _ (c .before .before .before .before .before .before .before .before .loop-test .taken) (c .before .before .before .before .before .before .before .before .before .before .before .before .before .fits .count)
 
 loop-less : tie.Need-loop-less Inv-loop μ-loop
-loop-less c = omega arith
+loop-less c = cell-nearer _ _ (c .before .before .before .before .before .before .before .before .loop-test .taken)
 
 loop-again : tie.Need-loop-again Inv-loop μ-loop
 unfolding backCell
 loop-again c =
-    let m = c .before .before .before .before .before .before .before .before .before .before .before in
-    let a = c .before .before .before .before .before .before .before .before .before .before .before .before .before .before .before .args in
-    let t = m .loop .inv .2 in
-    let d = m .loop .lanes in
-    let i = m .loop .i - 8 in
+    let m = c .before .before .before .before .before .before .before .before .before .loop in
+    let a = c .before .before .before .before .before .before .before .before .before .before .before .before .before .args in
+    let p = place (c .before .before .before .before .before .before .before .before) in
+    let t = m .inv .2 in
+    let d = m .lanes in
+    let i = m .i - 8 in
+    let new = c .before .before .before .back .result in
     let fl : ℕ → ℕ = flagAt (now (a .flags)) in
     let F : ℕ → ℕ = levelAt (now (a .lanes)) in
-    let here : i + 8 ≡ m .loop .i = omega (arith, c .before .before .before .before .before .before .before .before .before .before) in
-    let cell : ℕ → ℕ = backLevels (fl (m .loop .f - 1)) (levelAt d) i (λ k. levelAt d (i + 8 + k)) in
-    let news : HasLevels 8 (c .before .before .before .before .back .result) cell = record { each = λ k h. c .before .before .before .before .back .ensures .each k h ∙ rw (here, c .before .before .before .before .before .wide .ensures, m .loop .inv .3 .each k h) } in
-    let e : levelAt (c .before .store .last .0) ≡ placed (levelAt d) i 8 cell = one-stored d i cell (c .before .before .before .before .back .result) news _ (c .before .store .ensures) (omega (arith, c .before .before .before .before .before .before .before .before .before .before)) (long (c .before .before .before .before)) in (
-      omega (arith, c .before .before .before .before .before .before .before .before .before .before),
-      omega (arith, c .before .before .before .before .before .before .before .before .before .before),
+    let cell : ℕ → ℕ = backLevels (fl (m .f - 1)) (levelAt d) i (λ k. levelAt d (i + 8 + k)) in
+    let news : HasLevels 8 new cell = record { each = λ k h. c .before .before .before .back .ensures .each k h ∙ gated-back (c .before .before .before .before .before .before .before .before .before .before .before .before .before .pre .0) (fl (m .f - 1)) _ i (levelAt d) (levelAt (m .beside)) (c .before .before .before .before .walk-gate .ensures) k h ∙ rw (p .here, m .inv .3 .each k h) } in
+    let e : levelAt (c .before .put .last .0) ≡ placed (levelAt d) i 8 cell = one-stored d i cell new news _ (c .before .put .ensures .0) (p .own) (long (c .before .before .before)) in (
+      cell-next _ _ (c .before .before .before .before .before .before .before .before .loop-test .taken),
+      c .before .put .kept .0 ∙ m .inv .1,
       back-next 8 fl (a .past) F t e
-          (one-marked d i cell (c .before .before .before .before .back .result) news F (m .loop .same) (t .marked) (c .before .before .before .kept .result) (λ k h. back-ahead 8 fl (a .past) F t (omega (arith, c .before .before .before .before .before .before .before .before .before .before)) (i + k) (omega arith)) (rw (c .before .before .before .before .before .before .before .before .load2 .ensures) at (c .before .before .before .kept .ensures))),
+          (one-marked d i cell new news F (m .same) (t .marked) (c .before .put .result) (λ k h. back-ahead 8 fl (a .past) F t (p .before) (i + k) (below i 8 _ k h (p .here))) (c .before .put .ensures .1)),
       record { each = λ k h. news .each k h ∙ carried _ _ cell i 8 i k e refl h },
     )
 
@@ -116,12 +115,10 @@ back-spec =
     loop-holds
     sub-i
     sub-f
-    load-requires-2
-    shared-slice-read-wide
-    wide-requires
+    shared-slice-read-walk-gate
+    walk-gate-requires
     back-requires
-    kept-requires
-    store-requires
+    put-requires
     add-n
     loop-less
     loop-again

@@ -3,6 +3,8 @@ use mathlib.Core.Path.{_≡_, refl, _∙_}
 use Prim.Native.Nat.{ℕ, _+_, _-_, _*_, _≤_}
 use native.Mathlib.Omega.{arith}
 use lib.ListN.{length}
+use mir.Syntax.{w64}
+use mir.Val.{Fits}
 use denote.Ref.{now}
 use borrow.Author.Needs.{needs}
 use Rattle.walkgraph.specs.Lists.{placed}
@@ -13,7 +15,7 @@ use Rattle.ways.specs.Row.{outLevels, outCell}
 use Rattle.ways.specs.Buffers.{flagAt}
 use Rattle.ways.proofs.Table.{below-eight}
 use Rattle.ways.proofs.Marked.{marked-start, marked-tells}
-use Rattle.ways.proofs.Passes.{OutTo, out-start, out-ahead, out-next, one-marked, one-stored, carried}
+use Rattle.ways.proofs.Passes.{OutTo, out-start, out-ahead, out-next, OutPlace, out-place, cell-next, cell-fits, cell-nearer, one-marked, one-stored, carried, onward, returned}
 use Rattle.eight.proofs.out.Statement.{statement}
 use Rattle.eight.proofs.out.Tie as tie
 
@@ -26,6 +28,16 @@ abbrev μ-loop : tie.MeasureT-loop
 
 long : (c : tie.After-out Inv-loop μ-loop) → length (c .out .result) ≡ 8
 long c = search needs
+
+cells-fit : (c : tie.Start Inv-loop μ-loop) → Fits w64 (length (now (c .args .lanes)))
+cells-fit c = omega arith
+
+bytes-fit : (c : tie.Start Inv-loop μ-loop) → Fits w64 (length (now (c .args .flags)))
+bytes-fit c = omega arith
+
+-- the cell of the turn
+place : (c : tie.In-loop Inv-loop μ-loop) → OutPlace 8 (c .before .before .before .before .before .args .first) (c .before .loop .n) (c .before .loop .i) (c .before .loop .o) (length (c .before .loop .lanes)) (length (now (c .before .before .before .before .before .args .flags)))
+place c = out-place (c .before .before .before .before .before .pre .1) (c .loop-test .taken) (c .before .loop .inv .1) (cells-fit (c .before .before .before .before .before)) (bytes-fit (c .before .before .before .before .before)) (c .before .loop .inv .2 .own) (c .before .loop .inv .2 .fed)
 
 mul-i : tie.Need-mul-i Inv-loop μ-loop
 mul-i c = omega arith
@@ -48,57 +60,51 @@ loop-holds c =
       rw (c .load .ensures) (levels-at (now (a .lanes)) (a .first * 8 - 8) 8),
     )
 
-add-wide : tie.Need-add-wide Inv-loop μ-loop
-add-wide c = omega arith
+add-out : tie.Need-add-out Inv-loop μ-loop
+add-out c = place (c .before) .index
 
-shared-slice-read-wide : tie.Need-shared-slice-read-wide Inv-loop μ-loop
-shared-slice-read-wide c = omega arith
-
-wide-requires : tie.Need-wide-requires Inv-loop μ-loop
-wide-requires c κs = tt
-
-load-requires-2 : tie.Need-load-requires-2 Inv-loop μ-loop
-load-requires-2 c κs = omega arith
+shared-slice-read-out : tie.Need-shared-slice-read-out Inv-loop μ-loop
+shared-slice-read-out c = place (c .before .before) .flag
 
 out-requires : tie.Need-out-requires Inv-loop μ-loop
-out-requires c κs = (c .before .before .before .before .before .before .before .before .before .before .pre .0, record { own = omega (arith, c .before .before .before .before .before .before); low = omega (arith, c .before .before .before .before .before .before); fed = omega (arith, c .before .before .before .before .before .before) })
+out-requires c κs =
+    let p = place (c .before .before) in
+    (c .before .before .before .before .before .before .before .pre .0, record { own = p .own; low = p .low; fed = p .fed })
 
-kept-requires : tie.Need-kept-requires Inv-loop μ-loop
-kept-requires c κs = tt
-
-store-requires : tie.Need-store-requires Inv-loop μ-loop
-store-requires c κs = omega arith
+put-requires : tie.Need-put-requires Inv-loop μ-loop
+put-requires c κs = place (c .before .before .before .before) .own
 
 add-i : tie.Need-add-i Inv-loop μ-loop
-add-i c = omega arith
+add-i c = place (c .before .before .before .before .before .before) .own-next
 
 add-o : tie.Need-add-o Inv-loop μ-loop
-add-o c = omega arith
+add-o c = place (c .before .before .before .before .before .before) .fed-next
 
 add-n : tie.Need-add-n Inv-loop μ-loop
-add-n c = omega arith
+add-n c = cell-fits _ _ (c .before .before .before .before .before .before .loop-test .taken) (c .before .before .before .before .before .before .before .before .before .before .before .fits .count)
 
 loop-less : tie.Need-loop-less Inv-loop μ-loop
-loop-less c = omega arith
+loop-less c = cell-nearer _ _ (c .before .before .before .before .before .before .loop-test .taken)
 
 loop-again : tie.Need-loop-again Inv-loop μ-loop
 unfolding outCell
 loop-again c =
-    let m = c .before .before .before .before .before .before .before .before .before .before .before in
-    let a = c .before .before .before .before .before .before .before .before .before .before .before .before .before .before .before .args in
-    let t = m .loop .inv .2 in
-    let d = m .loop .lanes in
-    let i = m .loop .i in
+    let m = c .before .before .before .before .before .before .before .loop in
+    let a = c .before .before .before .before .before .before .before .before .before .before .before .args in
+    let t = m .inv .2 in
+    let d = m .lanes in
+    let i = m .i in
+    let new = c .before .before .before .out .result in
     let fl : ℕ → ℕ = flagAt (now (a .flags)) in
     let F : ℕ → ℕ = levelAt (now (a .lanes)) in
-    let cell : ℕ → ℕ = outLevels 8 (a .down) (fl (a .first + m .loop .n)) (levelAt d) i (m .loop .o) (λ k. levelAt d (i - 8 + k)) in
-    let news : HasLevels 8 (c .before .before .before .before .out .result) cell = record { each = λ k h. c .before .before .before .before .out .ensures .each k h ∙ rw (c .before .before .before .before .before .before .before .before .wide .ensures, m .loop .inv .3 .each k h) } in
-    let e : levelAt (c .before .store .last .0) ≡ placed (levelAt d) i 8 cell = one-stored d i cell (c .before .before .before .before .out .result) news _ (c .before .store .ensures) (omega (arith, c .before .before .before .before .before .before .before .before .before .before)) (long (c .before .before .before .before)) in (
-      omega (arith, c .before .before .before .before .before .before .before .before .before .before),
-      omega (arith, c .before .before .before .before .before .before .before .before .before .before),
+    let cell : ℕ → ℕ = outLevels 8 (a .down) (fl (a .first + m .n)) (levelAt d) i (m .o) (λ k. levelAt d (i - 8 + k)) in
+    let news : HasLevels 8 new cell = record { each = λ k h. c .before .before .before .out .ensures .each k h ∙ rw (m .inv .3 .each k h) } in
+    let e : levelAt (c .before .put .last .0) ≡ placed (levelAt d) i 8 cell = one-stored d i cell new news _ (c .before .put .ensures .0) (place (c .before .before .before .before .before .before) .own) (long (c .before .before .before)) in (
+      cell-next _ _ (c .before .before .before .before .before .before .loop-test .taken),
+      c .before .put .kept .0 ∙ m .inv .1,
       out-next 8 fl (a .down) (a .first) (a .feeding) F t e
-          (one-marked d i cell (c .before .before .before .before .out .result) news F (m .loop .same) (t .marked) (c .before .before .before .kept .result) (λ k h. out-ahead 8 fl (a .down) (a .first) (a .feeding) F t (i + k) (omega arith)) (rw (c .before .before .before .before .before .before .load2 .ensures) at (c .before .before .before .kept .ensures))),
-      record { each = λ k h. omega (arith, news .each k h, carried _ _ cell i 8 (i + 8 - 8) k e (omega arith) h) },
+          (one-marked d i cell new news F (m .same) (t .marked) (c .before .put .result) (λ k h. out-ahead 8 fl (a .down) (a .first) (a .feeding) F t (i + k) (onward i k)) (c .before .put .ensures .1)),
+      record { each = λ k h. news .each k h ∙ carried _ _ cell i 8 (i + 8 - 8) k e (returned i 8) h },
     )
 
 changed-requires : tie.Need-changed-requires Inv-loop μ-loop
@@ -124,13 +130,10 @@ out-spec =
     sub-load
     load-requires
     loop-holds
-    add-wide
-    shared-slice-read-wide
-    wide-requires
-    load-requires-2
+    add-out
+    shared-slice-read-out
     out-requires
-    kept-requires
-    store-requires
+    put-requires
     add-i
     add-o
     add-n

@@ -1,19 +1,21 @@
 -- `sixteen::back`: after n cells.
 use mathlib.Core.Path.{_≡_, refl, _∙_}
-use Prim.Native.Nat.{ℕ, _+_, _-_, _*_, _≤_}
+use Prim.Native.Nat.{ℕ, _+_, _-_, _*_, _≤_, _<_}
 use native.Mathlib.Omega.{arith}
 use lib.ListN.{length}
+use mir.Syntax.{w64}
+use mir.Val.{Fits}
 use denote.Ref.{now}
 use borrow.Author.Needs.{needs}
 use Rattle.walkgraph.specs.Lists.{placed}
 use Rattle.lane.specs.Levels.{levelAt}
-use Rattle.strip.specs.Strips.{HasLevels}
+use Rattle.strip.specs.Strips.{HasLevels, backAt}
 use Rattle.strip.proofs.Strips.{levels-at}
 use Rattle.ways.specs.Row.{backLevels, backCell}
 use Rattle.ways.specs.Buffers.{flagAt}
-use Rattle.ways.proofs.Table.{below-eight}
+use Rattle.ways.proofs.Table.{below-eight, gate-in, gated-back}
 use Rattle.ways.proofs.Marked.{marked-start, marked-tells}
-use Rattle.ways.proofs.Passes.{BackTo, back-start, back-ahead, back-next, two-marked, two-stored, carried, second-back}
+use Rattle.ways.proofs.Passes.{BackTo, back-start, back-ahead, back-next, BackPlace, back-place, Halves, halves, cell-next, cell-fits, cell-nearer, two-marked, two-stored, carried, second-back, below, within-two, second-within}
 use Rattle.sixteen.proofs.back.Statement.{statement}
 use Rattle.sixteen.proofs.back.Tie as tie
 
@@ -30,6 +32,16 @@ long c = search needs
 
 long2 : (c : tie.After-back2 Inv-loop μ-loop) → length (c .back2 .result) ≡ 8
 long2 c = search needs
+
+cells-fit : (c : tie.Start Inv-loop μ-loop) → Fits w64 (length (now (c .args .lanes)))
+cells-fit c = omega arith
+
+-- the cell of the turn, and its two strips
+place : (c : tie.In-loop Inv-loop μ-loop) → BackPlace 16 (c .before .loop .n) (c .before .loop .i) (c .before .loop .f) (length (c .before .loop .lanes)) (length (now (c .before .before .before .before .before .before .before .args .flags))) (c .before .before .before .before .before .before .before .args .past)
+place c = back-place (c .before .before .before .before .before .before .before .pre .1) (c .loop-test .taken) (c .before .loop .inv .1) (c .before .loop .inv .2 .own) (c .before .loop .inv .2 .place)
+
+strips : (c : tie.In-loop Inv-loop μ-loop) → Halves (c .before .loop .i - 16) (length (c .before .loop .lanes))
+strips c = halves _ _ (place c .own) (rw (c .before .loop .inv .1) (cells-fit (c .before .before .before .before .before .before .before)))
 
 mul-i : tie.Need-mul-i Inv-loop μ-loop
 mul-i c = omega arith
@@ -58,82 +70,66 @@ loop-holds c =
     )
 
 sub-i : tie.Need-sub-i Inv-loop μ-loop
-sub-i c = omega arith
+sub-i c = place c .low
 
 sub-f : tie.Need-sub-f Inv-loop μ-loop
-sub-f c = omega arith
+sub-f c = place c .some
 
-shared-slice-read-wide : tie.Need-shared-slice-read-wide Inv-loop μ-loop
-shared-slice-read-wide c = omega arith
+shared-slice-read-walk-gate : tie.Need-shared-slice-read-walk-gate Inv-loop μ-loop
+shared-slice-read-walk-gate c = place (c .before) .flag
 
-wide-requires : tie.Need-wide-requires Inv-loop μ-loop
-wide-requires c κs = tt
-
-load-requires-3 : tie.Need-load-requires-3 Inv-loop μ-loop
-load-requires-3 c κs = omega arith
-
-add-load-2 : tie.Need-add-load-2 Inv-loop μ-loop
-add-load-2 c = omega arith
-
-load-requires-4 : tie.Need-load-requires-4 Inv-loop μ-loop
-load-requires-4 c κs = omega arith
+walk-gate-requires : tie.Need-walk-gate-requires Inv-loop μ-loop
+walk-gate-requires c κs = tt
 
 back-requires : tie.Need-back-requires Inv-loop μ-loop
-back-requires c κs = (c .before .before .before .before .before .before .before .before .before .before .before .before .before .before .pre .0, omega (arith, c .before .before .before .before .before .before .before))
+back-requires c κs = (strips (c .before .before .before .before) .first, gate-in (c .before .before .before .before .before .before .before .before .before .before .before .pre .0) _ (c .before .before .walk-gate .ensures))
 
 add-back : tie.Need-add-back Inv-loop μ-loop
-add-back c = omega arith
+add-back c = strips (c .before .before .before .before .before .before .before) .half
 
 back-requires-2 : tie.Need-back-requires-2 Inv-loop μ-loop
-back-requires-2 c κs = (c .before .before .before .before .before .before .before .before .before .before .before .before .before .before .before .before .pre .0, omega (arith, c .before .before .before .before .before .before .before .before .before))
+back-requires-2 c κs = (strips (c .before .before .before .before .before .before .before) .second, gate-in (c .before .before .before .before .before .before .before .before .before .before .before .before .before .before .pre .0) _ (c .before .before .before .before .before .walk-gate .ensures))
 
-kept-requires : tie.Need-kept-requires Inv-loop μ-loop
-kept-requires c κs = tt
+put-requires : tie.Need-put-requires Inv-loop μ-loop
+put-requires c κs = strips (c .before .before .before .before .before .before .before .before .before) .first
 
-kept-requires-2 : tie.Need-kept-requires-2 Inv-loop μ-loop
-kept-requires-2 c κs = tt
+add-put : tie.Need-add-put Inv-loop μ-loop
+add-put c = strips (c .before .before .before .before .before .before .before .before .before .before .before .before) .half
 
-store-requires : tie.Need-store-requires Inv-loop μ-loop
-store-requires c κs = omega (arith, c .before .before .before .before .before .before .before .before .before .before .before .before .before)
-
-add-store : tie.Need-add-store Inv-loop μ-loop
-add-store c = omega (arith, c .before .before .before .before .before .before .before .before .before .before .before .before .before .before .before .before)
-
-store-requires-2 : tie.Need-store-requires-2 Inv-loop μ-loop
-store-requires-2 c κs = omega (arith, c .before .before .before .before .before .before .before .before .before .before .before .before .before .before .before .before)
+put-requires-2 : tie.Need-put-requires-2 Inv-loop μ-loop
+put-requires-2 c κs = rw (c .before .before .put .kept .0) (strips (c .before .before .before .before .before .before .before .before .before .before .before .before) .second)
 
 add-n : tie.Need-add-n Inv-loop μ-loop
-add-n c = omega (arith, c .before .before .before .before .before .before .before .before .before .before .before .before .before .before .before .before .before .before)
+add-n c = cell-fits _ _ (c .before .before .before .before .before .before .before .before .before .before .before .before .before .before .loop-test .taken) (c .before .before .before .before .before .before .before .before .before .before .before .before .before .before .before .before .before .before .before .before .before .fits .count)
 
 loop-less : tie.Need-loop-less Inv-loop μ-loop
-loop-less c = omega (arith, c .before .before .before .before .before .before .before .before .before .before .before .before .before .before .before .before .before .before)
+loop-less c = cell-nearer _ _ (c .before .before .before .before .before .before .before .before .before .before .before .before .before .before .loop-test .taken)
 
 loop-again : tie.Need-loop-again Inv-loop μ-loop
 unfolding backCell
 loop-again c =
-    let m = c .before .before .before .before .before .before .before .before .before .before .before .before .before .before .before .before .before .before .before in
-    let a = c .before .before .before .before .before .before .before .before .before .before .before .before .before .before .before .before .before .before .before .before .before .before .before .before .before .args in
-    let t = m .loop .inv .2 in
-    let d = m .loop .lanes in
-    let i = m .loop .i - 16 in
+    let m = c .before .before .before .before .before .before .before .before .before .before .before .before .before .before .before .loop in
+    let a = c .before .before .before .before .before .before .before .before .before .before .before .before .before .before .before .before .before .before .before .before .before .args in
+    let p = place (c .before .before .before .before .before .before .before .before .before .before .before .before .before .before) in
+    let t = m .inv .2 in
+    let d = m .lanes in
+    let i = m .i - 16 in
+    let new = c .before .before .before .before .before .before .before .before .before .back .result in
+    let new2 = c .before .before .before .before .before .before .back2 .result in
     let fl : ℕ → ℕ = flagAt (now (a .flags)) in
     let F : ℕ → ℕ = levelAt (now (a .lanes)) in
-    let here : i + 16 ≡ m .loop .i = omega (arith, c .before .before .before .before .before .before .before .before .before .before .before .before .before .before .before .before .before .before) in
-    let cell : ℕ → ℕ = backLevels (fl (m .loop .f - 1)) (levelAt d) i (λ k. levelAt d (i + 16 + k)) in
-    let news : HasLevels 8 (c .before .before .before .before .before .before .before .before .before .before .back .result) cell = record { each = λ k h. c .before .before .before .before .before .before .before .before .before .before .back .ensures .each k h ∙ rw (here, c .before .before .before .before .before .before .before .before .before .before .before .before .before .before .before .before .wide .ensures, m .loop .inv .3 .each k h) } in
-    let news2 : HasLevels 8 (c .before .before .before .before .before .before .before .before .back2 .result) (λ k. cell (8 + k)) =
-    record { each = λ k h. (rw (c .before .before .before .before .before .before .before .before .before .before .before .before .before .before .before .before .wide .ensures) at (c .before .before .before .before .before .before .before .before .back2 .ensures .each k h)) ∙ second-back (fl (m .loop .f - 1)) (levelAt d) i (levelAt (m .loop .beside2)) k (rw here (m .loop .inv .4 .each k h)) } in
-    let e : levelAt (c .before .store2 .last .0) ≡ placed (levelAt d) i 16 cell =
-    two-stored d i cell (c .before .before .before .before .before .before .before .before .before .before .back .result) news _ _ (c .before .before .before .before .before .before .before .before .back2 .result) (c .before .before .before .before .store .ensures) (c .before .store2 .ensures) (omega (arith, c .before .before .before .before .before .before .before .before .before .before .before .before .before .before .before .before .before .before)) (long (c .before .before .before .before .before .before .before .before .before .before)) (long2 (c .before .before .before .before .before .before .before .before)) news2 in (
-      omega (arith, c .before .before .before .before .before .before .before .before .before .before .before .before .before .before .before .before .before .before),
-      omega (arith, c .before .before .before .before .before .before .before .before .before .before .before .before .before .before .before .before .before .before),
+    let walk : (j : ℕ) (beside : ℕ → ℕ) (k : ℕ) → k < 8 → backAt (levelAt d) (levelAt (now (a .gates))) j (beside k) (c .before .before .before .before .before .before .before .before .before .before .before .before .walk-gate .result) k ≡ backLevels (fl (m .f - 1)) (levelAt d) j beside k = λ j beside k h. gated-back (c .before .before .before .before .before .before .before .before .before .before .before .before .before .before .before .before .before .before .before .before .before .pre .0) (fl (m .f - 1)) _ j (levelAt d) beside (c .before .before .before .before .before .before .before .before .before .before .before .before .walk-gate .ensures) k h in
+    let cell : ℕ → ℕ = backLevels (fl (m .f - 1)) (levelAt d) i (λ k. levelAt d (i + 16 + k)) in
+    let news : HasLevels 8 new cell = record { each = λ k h. c .before .before .before .before .before .before .before .before .before .back .ensures .each k h ∙ walk i (levelAt (m .beside)) k h ∙ rw (p .here, m .inv .3 .each k h) } in
+    let news2 : HasLevels 8 new2 (λ k. cell (8 + k)) = record { each = λ k h. c .before .before .before .before .before .before .back2 .ensures .each k h ∙ walk (i + 8) (levelAt (m .beside2)) k h ∙ second-back (fl (m .f - 1)) (levelAt d) i (levelAt (m .beside2)) k (rw (p .here) (m .inv .4 .each k h)) } in
+    let e : levelAt (c .before .put2 .last .0) ≡ placed (levelAt d) i 16 cell = two-stored d i cell new news _ _ new2 (c .before .before .before .before .put .ensures .0) (c .before .put2 .ensures .0) (p .own) (long (c .before .before .before .before .before .before .before .before .before)) (long2 (c .before .before .before .before .before .before)) news2 in (
+      cell-next _ _ (c .before .before .before .before .before .before .before .before .before .before .before .before .before .before .loop-test .taken),
+      c .before .put2 .kept .0 ∙ c .before .before .before .before .put .kept .0 ∙ m .inv .1,
       back-next 16 fl (a .past) F t e
-          (two-marked d i cell (c .before .before .before .before .before .before .before .before .before .before .back .result) news F (m .loop .same) (t .marked) (c .before .before .before .before .before .before .before .before .back2 .result) (c .before .before .before .before .before .before .before .kept .result) (c .before .before .before .before .before .before .kept2 .result) news2
-          (λ k h. back-ahead 16 fl (a .past) F t (omega (arith, c .before .before .before .before .before .before .before .before .before .before .before .before .before .before .before .before .before .before)) (i + k) (omega arith))
-          (rw (c .before .before .before .before .before .before .before .before .before .before .before .before .before .before .load3 .ensures) at (c .before .before .before .before .before .before .before .kept .ensures))
-          (rw (c .before .before .before .before .before .before .before .before .before .before .before .before .load4 .ensures) at (c .before .before .before .before .before .before .kept2 .ensures))),
-      record { each = λ k h. news .each k h ∙ carried _ _ cell i 16 i k e refl (omega arith) },
-      record { each = λ k h. news2 .each k h ∙ carried _ _ cell i 16 i (8 + k) e refl (omega arith) },
+          (two-marked d i cell new news F (m .same) (t .marked) _ new2 (c .before .before .before .before .put .result) (c .before .put2 .result) (c .before .before .before .before .put .ensures .0) (strips (c .before .before .before .before .before .before .before .before .before .before .before .before .before .before) .first) (long (c .before .before .before .before .before .before .before .before .before)) news2
+          (λ k h. back-ahead 16 fl (a .past) F t (p .before) (i + k) (below i 16 _ k h (p .here))) (c .before .before .before .before .put .ensures .1) (c .before .put2 .ensures .1)),
+      record { each = λ k h. news .each k h ∙ carried _ _ cell i 16 i k e refl (within-two k h) },
+      record { each = λ k h. news2 .each k h ∙ carried _ _ cell i 16 i (8 + k) e refl (second-within k h) },
     )
 
 changed-requires : tie.Need-changed-requires Inv-loop μ-loop
@@ -161,19 +157,14 @@ back-spec =
     loop-holds
     sub-i
     sub-f
-    shared-slice-read-wide
-    wide-requires
-    load-requires-3
-    add-load-2
-    load-requires-4
+    shared-slice-read-walk-gate
+    walk-gate-requires
     back-requires
     add-back
     back-requires-2
-    kept-requires
-    kept-requires-2
-    store-requires
-    add-store
-    store-requires-2
+    put-requires
+    add-put
+    put-requires-2
     add-n
     loop-less
     loop-again

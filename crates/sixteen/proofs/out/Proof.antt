@@ -3,6 +3,8 @@ use mathlib.Core.Path.{_≡_, refl, _∙_}
 use Prim.Native.Nat.{ℕ, _+_, _-_, _*_, _≤_}
 use native.Mathlib.Omega.{arith}
 use lib.ListN.{length}
+use mir.Syntax.{w64}
+use mir.Val.{Fits}
 use denote.Ref.{now}
 use borrow.Author.Needs.{needs}
 use Rattle.walkgraph.specs.Lists.{placed}
@@ -13,7 +15,7 @@ use Rattle.ways.specs.Row.{outLevels, outCell}
 use Rattle.ways.specs.Buffers.{flagAt}
 use Rattle.ways.proofs.Table.{below-eight}
 use Rattle.ways.proofs.Marked.{marked-start, marked-tells}
-use Rattle.ways.proofs.Passes.{OutTo, out-start, out-ahead, out-next, two-marked, two-stored, carried, second-out}
+use Rattle.ways.proofs.Passes.{OutTo, out-start, out-ahead, out-next, OutPlace, out-place, FedHalves, fed-halves, cell-next, cell-fits, cell-nearer, two-marked, two-stored, carried, second-out, onward, returned, within-two, second-within}
 use Rattle.sixteen.proofs.out.Statement.{statement}
 use Rattle.sixteen.proofs.out.Tie as tie
 
@@ -30,6 +32,19 @@ long c = search needs
 
 long2 : (c : tie.After-out2 Inv-loop μ-loop) → length (c .out2 .result) ≡ 8
 long2 c = search needs
+
+cells-fit : (c : tie.Start Inv-loop μ-loop) → Fits w64 (length (now (c .args .lanes)))
+cells-fit c = omega arith
+
+bytes-fit : (c : tie.Start Inv-loop μ-loop) → Fits w64 (length (now (c .args .flags)))
+bytes-fit c = omega arith
+
+-- the cell of the turn, and its two strips
+place : (c : tie.In-loop Inv-loop μ-loop) → OutPlace 16 (c .before .before .before .before .before .before .before .args .first) (c .before .loop .n) (c .before .loop .i) (c .before .loop .o) (length (c .before .loop .lanes)) (length (now (c .before .before .before .before .before .before .before .args .flags)))
+place c = out-place (c .before .before .before .before .before .before .before .pre .1) (c .loop-test .taken) (c .before .loop .inv .1) (cells-fit (c .before .before .before .before .before .before .before)) (bytes-fit (c .before .before .before .before .before .before .before)) (c .before .loop .inv .2 .own) (c .before .loop .inv .2 .fed)
+
+strips : (c : tie.In-loop Inv-loop μ-loop) → FedHalves (c .before .loop .i) (c .before .loop .o) (length (c .before .loop .lanes))
+strips c = fed-halves (place c) (rw (c .before .loop .inv .1) (cells-fit (c .before .before .before .before .before .before .before)))
 
 mul-i : tie.Need-mul-i Inv-loop μ-loop
 mul-i c = omega arith
@@ -63,88 +78,69 @@ loop-holds c =
       },
     )
 
-add-wide : tie.Need-add-wide Inv-loop μ-loop
-add-wide c = omega arith
+add-flag : tie.Need-add-flag Inv-loop μ-loop
+add-flag c = place c .index
 
-shared-slice-read-wide : tie.Need-shared-slice-read-wide Inv-loop μ-loop
-shared-slice-read-wide c = omega arith
-
-wide-requires : tie.Need-wide-requires Inv-loop μ-loop
-wide-requires c κs = tt
-
-load-requires-3 : tie.Need-load-requires-3 Inv-loop μ-loop
-load-requires-3 c κs = omega arith
-
-add-load : tie.Need-add-load Inv-loop μ-loop
-add-load c = omega arith
-
-load-requires-4 : tie.Need-load-requires-4 Inv-loop μ-loop
-load-requires-4 c κs = omega arith
+shared-slice-read-flag : tie.Need-shared-slice-read-flag Inv-loop μ-loop
+shared-slice-read-flag c = place (c .before) .flag
 
 out-requires : tie.Need-out-requires Inv-loop μ-loop
-out-requires c κs = (c .before .before .before .before .before .before .before .before .before .before .before .before .before .before .pre .0, record { own = omega (arith, c .before .before .before .before .before .before .before .before); low = omega (arith, c .before .before .before .before .before .before .before .before); fed = omega (arith, c .before .before .before .before .before .before .before) })
+out-requires c κs = (c .before .before .before .before .before .before .before .before .before .pre .0, strips (c .before .before) .first)
 
 add-out : tie.Need-add-out Inv-loop μ-loop
-add-out c = omega arith
+add-out c = strips (c .before .before .before .before) .own .half
 
 add-out-2 : tie.Need-add-out-2 Inv-loop μ-loop
-add-out-2 c = omega arith
+add-out-2 c = strips (c .before .before .before .before) .half
 
 out-requires-2 : tie.Need-out-requires-2 Inv-loop μ-loop
-out-requires-2 c κs = (c .before .before .before .before .before .before .before .before .before .before .before .before .before .before .before .before .pre .0, record { own = omega (arith, c .before .before .before .before .before .before .before .before .before); low = omega (arith, c .before .before .before .before .before .before .before .before .before .before); fed = omega (arith, c .before .before .before .before .before .before .before .before .before) })
+out-requires-2 c κs = (c .before .before .before .before .before .before .before .before .before .before .before .pre .0, strips (c .before .before .before .before) .second)
 
-kept-requires : tie.Need-kept-requires Inv-loop μ-loop
-kept-requires c κs = tt
+put-requires : tie.Need-put-requires Inv-loop μ-loop
+put-requires c κs = strips (c .before .before .before .before .before .before) .own .first
 
-kept-requires-2 : tie.Need-kept-requires-2 Inv-loop μ-loop
-kept-requires-2 c κs = tt
+add-put : tie.Need-add-put Inv-loop μ-loop
+add-put c = strips (c .before .before .before .before .before .before .before .before .before) .own .half
 
-store-requires : tie.Need-store-requires Inv-loop μ-loop
-store-requires c κs = omega (arith, c .before .before .before .before .before .before .before .before .before .before .before .before .before)
-
-add-store : tie.Need-add-store Inv-loop μ-loop
-add-store c = omega (arith, c .before .before .before .before .before .before .before .before .before .before .before .before .before .before .before .before)
-
-store-requires-2 : tie.Need-store-requires-2 Inv-loop μ-loop
-store-requires-2 c κs = omega (arith, c .before .before .before .before .before .before .before .before .before .before .before .before .before .before .before .before)
+put-requires-2 : tie.Need-put-requires-2 Inv-loop μ-loop
+put-requires-2 c κs = rw (c .before .before .put .kept .0) (strips (c .before .before .before .before .before .before .before .before .before) .own .second)
 
 add-i : tie.Need-add-i Inv-loop μ-loop
-add-i c = omega (arith, c .before .before .before .before .before .before .before .before .before .before .before .before .before .before .before .before .before .before)
+add-i c = place (c .before .before .before .before .before .before .before .before .before .before .before) .own-next
 
 add-o : tie.Need-add-o Inv-loop μ-loop
-add-o c = omega (arith, c .before .before .before .before .before .before .before .before .before .before .before .before .before .before .before .before .before .before)
+add-o c = place (c .before .before .before .before .before .before .before .before .before .before .before) .fed-next
 
 add-n : tie.Need-add-n Inv-loop μ-loop
-add-n c = omega (arith, c .before .before .before .before .before .before .before .before .before .before .before .before .before .before .before .before .before .before)
+add-n c = cell-fits _ _ (c .before .before .before .before .before .before .before .before .before .before .before .loop-test .taken) (c .before .before .before .before .before .before .before .before .before .before .before .before .before .before .before .before .before .before .fits .count)
 
 loop-less : tie.Need-loop-less Inv-loop μ-loop
-loop-less c = omega (arith, c .before .before .before .before .before .before .before .before .before .before .before .before .before .before .before .before .before .before)
+loop-less c = cell-nearer _ _ (c .before .before .before .before .before .before .before .before .before .before .before .loop-test .taken)
 
 loop-again : tie.Need-loop-again Inv-loop μ-loop
 unfolding outCell
 loop-again c =
-    let m = c .before .before .before .before .before .before .before .before .before .before .before .before .before .before .before .before .before .before .before in
-    let a = c .before .before .before .before .before .before .before .before .before .before .before .before .before .before .before .before .before .before .before .before .before .before .before .before .before .args in
-    let t = m .loop .inv .2 in
-    let d = m .loop .lanes in
-    let i = m .loop .i in
+    let m = c .before .before .before .before .before .before .before .before .before .before .before .before .loop in
+    let a = c .before .before .before .before .before .before .before .before .before .before .before .before .before .before .before .before .before .before .args in
+    let p = place (c .before .before .before .before .before .before .before .before .before .before .before) in
+    let t = m .inv .2 in
+    let d = m .lanes in
+    let i = m .i in
+    let new = c .before .before .before .before .before .before .before .before .out .result in
+    let new2 = c .before .before .before .before .before .before .out2 .result in
     let fl : ℕ → ℕ = flagAt (now (a .flags)) in
     let F : ℕ → ℕ = levelAt (now (a .lanes)) in
-    let cell : ℕ → ℕ = outLevels 16 (a .down) (fl (a .first + m .loop .n)) (levelAt d) i (m .loop .o) (λ k. levelAt d (i - 16 + k)) in
-    let news : HasLevels 8 (c .before .before .before .before .before .before .before .before .before .before .out .result) cell = record { each = λ k h. c .before .before .before .before .before .before .before .before .before .before .out .ensures .each k h ∙ rw (c .before .before .before .before .before .before .before .before .before .before .before .before .before .before .before .before .wide .ensures, m .loop .inv .3 .each k h) } in
-    let news2 : HasLevels 8 (c .before .before .before .before .before .before .before .before .out2 .result) (λ k. cell (8 + k)) =
-    record { each = λ k h. (rw (c .before .before .before .before .before .before .before .before .before .before .before .before .before .before .before .before .wide .ensures) at (c .before .before .before .before .before .before .before .before .out2 .ensures .each k h)) ∙ second-out (a .down) _ (levelAt d) i (m .loop .o) (levelAt (m .loop .beside2)) (omega (arith, c .before .before .before .before .before .before .before .before .before .before .before .before .before .before .before .before .before .before)) k (m .loop .inv .4 .each k h) } in
-    let e : levelAt (c .before .store2 .last .0) ≡ placed (levelAt d) i 16 cell =
-    two-stored d i cell (c .before .before .before .before .before .before .before .before .before .before .out .result) news _ _ (c .before .before .before .before .before .before .before .before .out2 .result) (c .before .before .before .before .store .ensures) (c .before .store2 .ensures) (omega (arith, c .before .before .before .before .before .before .before .before .before .before .before .before .before .before .before .before .before .before)) (long (c .before .before .before .before .before .before .before .before .before .before)) (long2 (c .before .before .before .before .before .before .before .before)) news2 in (
-      omega (arith, c .before .before .before .before .before .before .before .before .before .before .before .before .before .before .before .before .before .before),
-      omega (arith, c .before .before .before .before .before .before .before .before .before .before .before .before .before .before .before .before .before .before),
+    let cell : ℕ → ℕ = outLevels 16 (a .down) (fl (a .first + m .n)) (levelAt d) i (m .o) (λ k. levelAt d (i - 16 + k)) in
+    let news : HasLevels 8 new cell = record { each = λ k h. c .before .before .before .before .before .before .before .before .out .ensures .each k h ∙ rw (m .inv .3 .each k h) } in
+    let news2 : HasLevels 8 new2 (λ k. cell (8 + k)) = record { each = λ k h. c .before .before .before .before .before .before .out2 .ensures .each k h ∙ second-out (a .down) (fl (a .first + m .n)) (levelAt d) i (m .o) (levelAt (m .beside2)) (p .low) k (m .inv .4 .each k h) } in
+    let e : levelAt (c .before .put2 .last .0) ≡ placed (levelAt d) i 16 cell = two-stored d i cell new news _ _ new2 (c .before .before .before .before .put .ensures .0) (c .before .put2 .ensures .0) (p .own) (long (c .before .before .before .before .before .before .before .before)) (long2 (c .before .before .before .before .before .before)) news2 in (
+      cell-next _ _ (c .before .before .before .before .before .before .before .before .before .before .before .loop-test .taken),
+      c .before .put2 .kept .0 ∙ c .before .before .before .before .put .kept .0 ∙ m .inv .1,
       out-next 16 fl (a .down) (a .first) (a .feeding) F t e
-          (two-marked d i cell (c .before .before .before .before .before .before .before .before .before .before .out .result) news F (m .loop .same) (t .marked) (c .before .before .before .before .before .before .before .before .out2 .result) (c .before .before .before .before .before .before .before .kept .result) (c .before .before .before .before .before .before .kept2 .result) news2
-          (λ k h. out-ahead 16 fl (a .down) (a .first) (a .feeding) F t (i + k) (omega arith))
-          (rw (c .before .before .before .before .before .before .before .before .before .before .before .before .before .before .load3 .ensures) at (c .before .before .before .before .before .before .before .kept .ensures))
-          (rw (c .before .before .before .before .before .before .before .before .before .before .before .before .load4 .ensures) at (c .before .before .before .before .before .before .kept2 .ensures))),
-      record { each = λ k h. news .each k h ∙ carried _ _ cell i 16 (i + 16 - 16) k e (omega arith) (omega arith) },
-      record { each = λ k h. news2 .each k h ∙ carried _ _ cell i 16 (i + 16 - 16) (8 + k) e (omega arith) (omega arith) },
+          (two-marked d i cell new news F (m .same) (t .marked) _ new2 (c .before .before .before .before .put .result) (c .before .put2 .result) (c .before .before .before .before .put .ensures .0) (strips (c .before .before .before .before .before .before .before .before .before .before .before) .own .first) (long (c .before .before .before .before .before .before .before .before)) news2
+          (λ k h. out-ahead 16 fl (a .down) (a .first) (a .feeding) F t (i + k) (onward i k)) (c .before .before .before .before .put .ensures .1) (c .before .put2 .ensures .1)),
+      record { each = λ k h. news .each k h ∙ carried _ _ cell i 16 (i + 16 - 16) k e (returned i 16) (within-two k h) },
+      record { each = λ k h. news2 .each k h ∙ carried _ _ cell i 16 (i + 16 - 16) (8 + k) e (returned i 16) (second-within k h) },
     )
 
 changed-requires : tie.Need-changed-requires Inv-loop μ-loop
@@ -172,21 +168,15 @@ out-spec =
     sub-load-2
     load-requires-2
     loop-holds
-    add-wide
-    shared-slice-read-wide
-    wide-requires
-    load-requires-3
-    add-load
-    load-requires-4
+    add-flag
+    shared-slice-read-flag
     out-requires
     add-out
     add-out-2
     out-requires-2
-    kept-requires
-    kept-requires-2
-    store-requires
-    add-store
-    store-requires-2
+    put-requires
+    add-put
+    put-requires-2
     add-i
     add-o
     add-n

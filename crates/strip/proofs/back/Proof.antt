@@ -1,79 +1,58 @@
 -- `strip::back`: the first k lanes have the levels of the way back.
-use mathlib.Core.Path.{_≡_, refl}
-use Prim.Native.Nat.{_-_, _≤_}
+use mathlib.Core.Path.{refl, ap, _∙_}
+use Prim.Native.Nat.{ℕ, _-_}
 use native.Mathlib.Omega.{arith}
-use lib.IntN.{pos}
-use lib.ListN.{length, getD, length-set}
-use mir.Syntax.{w16}
-use mir.Val.{toZ, ofZ}
-use mir.ValLaws.{toZ-ofZ}
+use denote.Ref.{now}
 use borrow.Author.Needs.{sfits-of}
-use Rattle.lane.specs.Levels.{level}
-use Rattle.strip.specs.Strips.{HasLevels, backAt}
-use Rattle.strip.proofs.Strips.{levels-more}
+use Rattle.lane.specs.Levels.{levelAt}
+use Rattle.strip.specs.Strips.{backAt}
+use Rattle.strip.proofs.Strips.{Filled, filled-none, filled-more, filled-all, lane-read, lane-bytes, lane-next, lane-nearer}
 use Rattle.strip.proofs.back.Statement.{statement}
 use Rattle.strip.proofs.back.Tie as tie
 
 abbrev Inv-loop : tie.InvT-loop
-Inv-loop old beside walk-gate strip₀ k₀ strip k = (k ≤ 8) × (length strip ≡ 8) × HasLevels k strip (backAt old beside walk-gate)
+Inv-loop lanes gates i walk-gate beside strip₀ k₀ strip k = Filled (λ j. backAt (levelAt lanes) (levelAt gates) i (levelAt beside j) walk-gate j) k strip
 
 abbrev μ-loop : tie.MeasureT-loop
-μ-loop old beside walk-gate strip₀ k₀ strip k = 8 - k
+μ-loop lanes gates i walk-gate beside strip₀ k₀ strip k = 8 - k
 
 loop-holds : tie.Need-loop-holds Inv-loop μ-loop
-loop-holds c = (omega arith, refl, record { each = λ j l. absurd (omega arith) })
+loop-holds c = filled-none _ _ refl
 
 mul-back : tie.Need-mul-back Inv-loop μ-loop
-mul-back c = omega arith
+mul-back c = lane-bytes _ (c .loop-test .taken)
 
 array-copy-out-back : tie.Need-array-copy-out-back Inv-loop μ-loop
-array-copy-out-back c = omega arith
-
-mul-back-2 : tie.Need-mul-back-2 Inv-loop μ-loop
-mul-back-2 c = omega arith
-
-array-copy-out-back-2 : tie.Need-array-copy-out-back-2 Inv-loop μ-loop
-array-copy-out-back-2 c = omega arith
-
-mul-back-3 : tie.Need-mul-back-3 Inv-loop μ-loop
-mul-back-3 c = omega arith
-
-array-copy-out-back-3 : tie.Need-array-copy-out-back-3 Inv-loop μ-loop
-array-copy-out-back-3 c = omega arith
+array-copy-out-back c = c .loop-test .taken
 
 back-requires : tie.Need-back-requires Inv-loop μ-loop
-back-requires c κs = tt
+back-requires c κs =
+    let p = c .before .before .before .pre in
+    (p .0, p .1, c .before .loop-test .taken)
 
 mul-strip : tie.Need-mul-strip Inv-loop μ-loop
-mul-strip c = omega arith
+mul-strip c = lane-bytes _ (c .before .before .loop-test .taken)
 
 array-set-from-strip : tie.Need-array-set-from-strip Inv-loop μ-loop
-array-set-from-strip c = omega arith
+array-set-from-strip c = c .before .before .loop-test .taken
 
 add-k : tie.Need-add-k Inv-loop μ-loop
-add-k c = omega arith
+add-k c = lane-next _ (c .before .before .loop-test .taken)
 
 loop-less : tie.Need-loop-less Inv-loop μ-loop
-loop-less c = omega arith
+loop-less c = lane-nearer _ (c .before .before .loop-test .taken)
 
 loop-again : tie.Need-loop-again Inv-loop μ-loop
-unfolding backAt
 loop-again c =
-    let m = c .before .before .before .before .before in
+    let m = c .before .before .before in
     let a = m .before .args in
     let k = m .loop .k in
-    let stored : level (toZ w16 (ofZ w16 (c .back .result))) ≡ backAt (a .t1) (a .t2) (a .t3) k =
-    rw (
-      toZ-ofZ w16 (c .back .result) (sfits-of (c .back .ok)),
-      c .back .ensures,
-      toZ-ofZ w16 (getD (a .t1) k (pos 0)) (sfits-of (c .before .before .before .back-arg .given)),
-      toZ-ofZ w16 (getD (a .t2) k (pos 0)) (sfits-of (c .before .before .back-arg2 .given)),
-      toZ-ofZ w16 (getD (a .t3) k (pos 0)) (sfits-of (c .before .back-arg3 .given)),
-    ) in
-    (omega arith, simp length-set (omega arith), levels-more (m .loop .strip) k _ (omega arith) stored (m .loop .inv .2))
+    filled-more (c .back .result) (sfits-of (c .back .ok)) (c .before .before .loop-test .taken)
+    (c .back .ensures ∙ ap (λ (n : ℕ). backAt (levelAt (now (a .lanes))) (levelAt (now (a .gates))) (a .i) n (a .walk-gate) k) (lane-read (a .t4) k (sfits-of (c .before .back-arg .given))))
+    (m .loop .inv)
 
 returns : tie.Need-returns Inv-loop μ-loop
-returns c = record { each = λ k l. c .before .loop .inv .2 .each k (omega arith) }
+returns c = filled-all (c .before .loop .inv) (omega arith)
 
 pub back-spec : {M : Type 1} → statement M
 back-spec =
@@ -84,10 +63,6 @@ back-spec =
     loop-holds
     mul-back
     array-copy-out-back
-    mul-back-2
-    array-copy-out-back-2
-    mul-back-3
-    array-copy-out-back-3
     back-requires
     mul-strip
     array-set-from-strip

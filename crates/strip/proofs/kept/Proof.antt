@@ -9,6 +9,7 @@ use mir.Val.{toZ, ofZ}
 use mir.ValLaws.{toZ-ofZ}
 use borrow.Author.Needs.{sfits-of}
 use Rattle.strip.specs.Marks.{HasMarks, keptAt}
+use Rattle.strip.proofs.Strips.{lane-bytes, lane-next, lane-nearer}
 use Rattle.strip.proofs.Marks.{marks-more}
 use Rattle.strip.proofs.kept.Statement.{statement}
 use Rattle.strip.proofs.kept.Tie as tie
@@ -23,37 +24,37 @@ loop-holds : tie.Need-loop-holds Inv-loop μ-loop
 loop-holds c = (omega arith, refl, record { each = λ j l. absurd (omega arith) })
 
 mul-kept : tie.Need-mul-kept Inv-loop μ-loop
-mul-kept c = omega arith
+mul-kept c = lane-bytes _ (c .loop-test .taken)
 
 array-copy-out-kept : tie.Need-array-copy-out-kept Inv-loop μ-loop
-array-copy-out-kept c = omega arith
+array-copy-out-kept c = c .loop-test .taken
 
 mul-kept-2 : tie.Need-mul-kept-2 Inv-loop μ-loop
-mul-kept-2 c = omega arith
+mul-kept-2 c = lane-bytes _ (c .before .loop-test .taken)
 
 array-copy-out-kept-2 : tie.Need-array-copy-out-kept-2 Inv-loop μ-loop
-array-copy-out-kept-2 c = omega arith
+array-copy-out-kept-2 c = c .before .loop-test .taken
 
 mul-kept-3 : tie.Need-mul-kept-3 Inv-loop μ-loop
-mul-kept-3 c = omega arith
+mul-kept-3 c = lane-bytes _ (c .before .before .loop-test .taken)
 
 array-copy-out-kept-3 : tie.Need-array-copy-out-kept-3 Inv-loop μ-loop
-array-copy-out-kept-3 c = omega arith
+array-copy-out-kept-3 c = c .before .before .loop-test .taken
 
 kept-requires : tie.Need-kept-requires Inv-loop μ-loop
 kept-requires c κs = tt
 
 mul-strip : tie.Need-mul-strip Inv-loop μ-loop
-mul-strip c = omega arith
+mul-strip c = lane-bytes _ (c .before .before .before .before .loop-test .taken)
 
 array-set-from-strip : tie.Need-array-set-from-strip Inv-loop μ-loop
-array-set-from-strip c = omega arith
+array-set-from-strip c = c .before .before .before .before .loop-test .taken
 
 add-k : tie.Need-add-k Inv-loop μ-loop
-add-k c = omega arith
+add-k c = lane-next _ (c .before .before .before .before .loop-test .taken)
 
 loop-less : tie.Need-loop-less Inv-loop μ-loop
-loop-less c = omega arith
+loop-less c = lane-nearer _ (c .before .before .before .before .loop-test .taken)
 
 loop-again : tie.Need-loop-again Inv-loop μ-loop
 unfolding keptAt

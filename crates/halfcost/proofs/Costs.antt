@@ -7,10 +7,10 @@ use borrow.Author.Tests.{lt-ltb, le-ltb, le-leb, lt-leb}
 use Rattle.walkgraph.specs.Lanes.{bias, laneOf, halfCostOf}
 use Rattle.walkgraph.proofs.Lanes.{half-cost-lane}
 use Rattle.walkgraph.proofs.Signed.{subℕ-pos}
 use Rattle.lane.specs.Levels.{level}
-use Rattle.lane.specs.declared.cost.Cost.the-variants.{Half, Unreachable}
-use Rattle.lane.specs.Costs.{costOf}
+use Rattle.halfcost.specs.declared.Cost.the-variants.{Half, Unreachable}
+use Rattle.halfcost.specs.Costs.{costOf}
 use Rattle.lane.proofs.Levels.{level-96}
 
 module _ (lane : ℤ) where
   pub cost-low : level lane < 17534 → costOf lane ≡ Unreachable

@@ -1,4 +1,4 @@
--- `cost::half_cost`: past the two tests the lane and 15,234 is a half cost from 0 to 48,000.
+-- `halfcost::half_cost`: past the two tests the lane and 15,234 is a half cost from 0 to 48,000.
 use mathlib.Core.Path.{_≡_, sym, ap}
 use Prim.Native.Nat.{_≤_, _<_}
 use native.Mathlib.Omega.{arith}
@@ -8,13 +8,13 @@ use mir.Val.{SFits, toZ, ofZ}
 use mir.ValLaws.{toZ-ofZ}
 use mir.Facts.{sfits-lit, sfits-widen}
 use Rattle.walkgraph.specs.Lanes.{bias, halfCostOf}
 use Rattle.lane.specs.Levels.{level}
 use Rattle.lane.proofs.Signed.{up-under}
 use Rattle.lane.proofs.Machine.{less, not-less, equal}
 use Rattle.lane.proofs.Levels.{level-one}
-use Rattle.lane.proofs.Costs.{cost-low, cost-top, cost-held, lane-bias, half-level}
-use Rattle.lane.proofs.cost.half_cost.Statement.{statement}
-use Rattle.lane.proofs.cost.half_cost.Tie as tie
+use Rattle.halfcost.proofs.Costs.{cost-low, cost-top, cost-held, lane-bias, half-level}
+use Rattle.halfcost.proofs.half_cost.Statement.{statement}
+use Rattle.halfcost.proofs.half_cost.Tie as tie
 
 returns : tie.Need-returns
 returns c =

@@ -1,9 +1,9 @@
 // The half cost of a lane, and back.
-use crate::value;
+use lane::value;
 ghost use mathlib.Core.Path.{_≡_};
 ghost use Prim.Native.Nat.{_≤_};
 ghost use Rattle.walkgraph.specs.Lanes.{bias, laneOf};
-ghost use Rattle.lane.specs.Costs.{costOf};
+ghost use Rattle.halfcost.specs.Costs.{costOf};
 
 // What a lane says: a half cost, or that there is no way within the reach.
 pub enum Cost {

@@ -1,4 +1,4 @@
--- `cost::lane_of`: the difference is the lane by definition, and fits an i16.
+-- `halfcost::lane_of`: the difference is the lane by definition, and fits an i16.
 use mathlib.Core.Path.{_≡_}
 use native.Mathlib.Omega.{arith}
 use lib.IntN.{pos, _-ℤ_}
@@ -9,8 +9,8 @@ use mir.Facts.{sfits-widen}
 use borrow.Author.Needs.{needs}
 use Rattle.walkgraph.specs.Lanes.{bias, laneOf}
 use Rattle.walkgraph.proofs.Lanes.{lane-fits, lane-rules}
-use Rattle.lane.proofs.cost.lane_of.Statement.{statement}
-use Rattle.lane.proofs.cost.lane_of.Tie as tie
+use Rattle.halfcost.proofs.lane_of.Statement.{statement}
+use Rattle.halfcost.proofs.lane_of.Tie as tie
 
 difference : (c : tie.Start) → toZ w32 (c .args .half) -ℤ pos 15234 ≡ laneOf (bias 96) (c .args .half)
 unfolding laneOf bias

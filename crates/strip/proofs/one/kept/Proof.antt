@@ -1,14 +1,14 @@
--- `value::kept`: two lanes are equal exactly when their levels are.
+-- `one::kept`: two lanes are equal exactly when their levels are.
 use mathlib.Core.Path.{sym, ap, _∙_}
 use mir.Syntax.{w16}
 use mir.Val.{ofZ}
 use mir.ValLaws.{toZ-ofZ}
 use Rattle.lane.specs.Levels.{level}
 use Rattle.lane.proofs.Machine.{equal}
 use Rattle.lane.proofs.Levels.{level-one}
-use Rattle.lane.proofs.Marks.{kept-same, kept-other}
-use Rattle.lane.proofs.value.kept.Statement.{statement}
-use Rattle.lane.proofs.value.kept.Tie as tie
+use Rattle.strip.proofs.Marks.{kept-same, kept-other}
+use Rattle.strip.proofs.one.kept.Statement.{statement}
+use Rattle.strip.proofs.one.kept.Tie as tie
 
 returns : tie.Need-returns
 returns c =

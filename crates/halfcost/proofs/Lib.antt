@@ -1,0 +1,2 @@
+-- Laws of the cost that a lane holds.
+pub mod Costs
