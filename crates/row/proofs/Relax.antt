@@ -4,11 +4,22 @@ use mathlib.Core.Logic.{⊎-elim}
 use mathlib.Core.Bool.{Bool, true, false}
 use Prim.Native.Nat.{ℕ, _+_, _*_}
 use native.Mathlib.Nat.{add-mul}
+use native.Mathlib.Omega.{arith}
+use mir.Syntax.{w64}
+use mir.Val.{Fits}
 use Rattle.ways.specs.Row.{bothRow, Tells, OutDone, BackDone, RowDone, changed, both, kept}
+use Rattle.ways.specs.Buffers.{RowFits, BackFits}
 use Rattle.lane.specs.Levels.{LaneCount}
 
 pub two-strips : {lanes : ℕ} → LaneCount lanes → ¬ (lanes ≡ 8) → lanes ≡ 16
 two-strips l n = ⊎-elim (λ e. absurd (n e)) (λ e. e) l
+
+-- the way back over the cells of the way out
+pub back-fits : {lanes first feeding count cells now bytes : ℕ} → RowFits lanes first feeding count cells bytes → now ≡ cells → BackFits lanes (first + count) count now bytes
+back-fits {lanes} fits e = record { low = omega arith; own = rw e (fits .own); flags = fits .flags }
+
+pub past-fits : {lanes first feeding count cells bytes : ℕ} → RowFits lanes first feeding count cells bytes → Fits w64 bytes → Fits w64 (first + count)
+past-fits fits b = omega (arith, fits .flags, b)
 
 module _ {lanes : ℕ} {flag : ℕ → ℕ} {down : Bool} {first feeding count : ℕ} {F G : ℕ → ℕ} {moved : Bool} (out : OutDone lanes flag down first feeding count F G moved) where
   -- the way back after the way out is both ways

@@ -1,16 +1,20 @@
 -- `visit::visit`: an empty row, one that is skipped, and one that is relaxed.
-use Prim.Native.Nat.{_-_, _*_}
+use mathlib.Core.Path.{refl}
+use Prim.Native.Nat.{ℕ, _-_, _*_, _≤_, _<_}
 use native.Mathlib.Omega.{arith}
 use Rattle.row.specs.Visits.{empty, skipped}
 use Rattle.row.proofs.Windows.{VisitNumbers, visit-numbers, row-fits, done-changed, done-same}
+use lib.ListN.{length-set}
 use denote.Ref.{now}
-use borrow.Author.Needs.{needs}
 use Rattle.row.proofs.visit.visit.Statement.{statement}
 use Rattle.row.proofs.visit.visit.Tie as tie
 
 -- the numbers of the visit
 numbers : (c : tie.After-slice-known2) → VisitNumbers (c .before .before .before .before .args .stride) (c .before .before .before .before .args .own) (c .before .before .before .before .args .feed) (now (c .before .before .before .before .args .rows))
 numbers c = visit-numbers (c .before .before .before .before .pre .1) (omega arith) (omega arith) (omega arith) (omega arith)
+
+lower : (a b : ℕ) → a < b → a ≤ b
+lower a b h = omega arith
 
 mul-a : tie.Need-mul-a
 mul-a c = numbers c .twice
@@ -79,7 +83,7 @@ add-feeding : tie.Need-add-feeding
 add-feeding c = numbers (c .before .before .before .before .before .before) .feed-cell (c .before .before .before .if1 .left)
 
 sub-relax : tie.Need-sub-relax
-sub-relax c = search needs
+sub-relax c = lower _ _ (c .before .before .before .before .if1 .left)
 
 relax-requires : tie.Need-relax-requires
 relax-requires c κs = (c .before .before .before .before .before .before .before .before .before .before .before .pre .0, c .before .before .before .before .before .before .before .before .before .before .before .pre .1 .count, row-fits (c .before .before .before .before .before .before .before .before .before .before .before .pre .1) (c .before .before .before .before .if1 .left))
@@ -103,22 +107,22 @@ same-length : tie.Need-same-length
 same-length c = c .before .before .before .before .relax .kept .0
 
 same-length-2 : tie.Need-same-length-2
-same-length-2 c = search needs
+same-length-2 c = simp length-set refl
 
 same-length-3 : tie.Need-same-length-3
-same-length-3 c = search needs
+same-length-3 c = simp length-set refl
 
 returns-3 : tie.Need-returns-3
-returns-3 c = done-changed (c .before .before .before .before .before .before .before .before .before .if1 .left) (c .before .before .before .before .before .before .if2 .left) (c .before .before .before .before .relax .ensures) _ _ (c .before .before .if3 .taken) (c .wrapping-add-u32 .ensures) (omega arith)
+returns-3 c = done-changed (c .before .before .before .before .before .before .before .before .before .if1 .left) (c .before .before .before .before .before .before .if2 .left) (c .before .before .before .before .relax .ensures) _ _ (c .before .before .if3 .taken) (c .wrapping-add-u32 .ensures) refl
 
 same-length-4 : tie.Need-same-length-4
 same-length-4 c = c .before .before .relax .kept .0
 
 same-length-5 : tie.Need-same-length-5
-same-length-5 c = search needs
+same-length-5 c = simp length-set refl
 
 returns-4 : tie.Need-returns-4
-returns-4 c = done-same (c .before .before .before .before .before .before .before .if1 .left) (c .before .before .before .before .if2 .left) (c .before .before .relax .ensures) _ (c .if3 .left) (omega arith)
+returns-4 c = done-same (c .before .before .before .before .before .before .before .if1 .left) (c .before .before .before .before .if2 .left) (c .before .before .relax .ensures) _ (c .if3 .left) refl
 
 pub visit-spec : {M : Type 1} → statement M
 visit-spec =
