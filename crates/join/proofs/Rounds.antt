@@ -7,13 +7,14 @@ use Prim.Native.Nat.{ℕ, suc, _+_, _*_, _-_, _/_, _%_, _≤_, _<_}
 use native.Mathlib.Nat.{div-add-mod', mul-le-mul-right}
 use native.Mathlib.Decide.{decLe, ℕ-discrete}
 use native.Mathlib.Omega.{arith}
-use mir.Syntax.{w32, w64}
+use mir.Syntax.{w64}
 use mir.Val.{Fits}
 use lib.Dec.{T, leb, ltb, leb→le, ltb→lt, lt→ltb}
 use lib.Arith.{digits-div, digits-mod}
 use lib.ListN.{length}
 use borrow.Author.Tests.{eq-eqb, ne-eqb}
 use Rattle.walkgraph.proofs.Tests.{by-cases, and-left, and-right, and-pair}
+use Rattle.walkgraph.proofs.Places.{flat-lt}
 use Rattle.walkgraph.proofs.DisjointSet.{Same}
 use Rattle.walkgraph.proofs.SearchTurns.{next-turn, queue-in}
 use Rattle.walkgraph.proofs.SearchEnd.{Adj}
@@ -21,7 +22,7 @@ use Rattle.disjoint.specs.Forest.{of}
 use Rattle.labels.specs.Labels.{ownerOf, depthOf, cellOf}
 use Rattle.labels.specs.Growth.{Grown}
 use Rattle.picks.specs.Picks.{within, isInside, highest}
-use Rattle.visits.specs.Visits.{opens, MayVisit, Visited}
+use Rattle.visits.specs.Visits.{opens, MoveFits, MayVisit, Visited}
 use Rattle.picks.specs.Listed.{Table, OnMap, Listed}
 use Rattle.join.specs.Search.{isLabel, Walks, Links, Searching, Alike, Moved, Turning, Expanded}
 use Rattle.labels.proofs.Growing.{grown-none, grown-more, grown-chain, same-self}
@@ -260,15 +261,7 @@ pub record Sizes (width p k a b step : ℕ) : Type 0 where
   pub step-fits : Fits w64 ((p / 1024 * width + p % 1024) + step)
   pub step-low : width ≤ (p / 1024 * width + p % 1024) + step
   pub step-some : 1 ≤ (p / 1024 * width + p % 1024) + step - width
-  pub rows-fit : Fits w64 (b * 1024)
-  pub move-fits : Fits w64 (b * 1024 + a)
-  pub move-short : Fits w32 (b * 1024 + a)
-  pub to-fits : Fits w32 (p + (b * 1024 + a))
-  pub to-low : 1025 ≤ p + (b * 1024 + a)
-  pub next-fits : Fits w64 ((p / 1024 * width + p % 1024) + step - width - 1 + 1)
-  pub side-low : a ≤ (p / 1024 * width + p % 1024) + step - width - 1 + 1
-  pub over-fits : Fits w64 ((p / 1024 * width + p % 1024) + a)
-  pub over-low : 1 ≤ (p / 1024 * width + p % 1024) + a
+  pub fits : MoveFits (p / 1024 * width + p % 1024) ((p / 1024 * width + p % 1024) + step - width - 1) p a b
 
 module _ {width height : ℕ} {states queue parents ranks over down steps list₀ : List ℕ} {tail head : ℕ}
     (G : Turning width height states queue parents ranks over down steps list₀ tail head) where
@@ -315,15 +308,17 @@ module _ {width height : ℕ} {states queue parents ranks over down steps list�
         step-fits = omega (arith, few, along);
         step-low = omega (arith, enough);
         step-some = omega (arith, enough);
-        rows-fit = omega (arith, m .small-b);
-        move-fits = omega (arith, m .small-a, m .small-b);
-        move-short = omega (arith, m .small-a, m .small-b);
-        to-fits = omega (arith, row, m .small-a, m .small-b);
-        to-low = omega (arith, m .low-x, m .low-y);
-        next-fits = omega (arith, few, along);
-        side-low = rw next (omega (arith, m .low-x));
-        over-fits = omega (arith, few, m .small-a);
-        over-low = omega (arith, m .low-x);
+        fits =
+            record {
+              across = m .small-a;
+              along = m .small-b;
+              here = few;
+              there = rw next (omega (arith, few-cells G, flat-lt {s = width} {h = height} {x = p % 1024 + a - 1} {y = p / 1024 + b - 1} (omega (arith, m .low-x, m .high-x)) (omega (arith, m .low-y, m .high-y)), G .searching .cells));
+              place = omega (arith, row);
+              first = rw next (omega (arith, m .low-x));
+              second = omega (arith, m .low-x);
+              low = omega (arith, m .low-x, m .low-y);
+            };
       }
 
 -- a move by the numbers that the code makes is the move

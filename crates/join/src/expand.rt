@@ -42,9 +42,6 @@ pub fn expand(
     let mut end = tail;
     for j in 0..count {
         let k = picked[j] as usize;
-        let next = index + steps[k] - width - 1;
-        let to = point + (down[k] * 1024 + over[k]) as u32 - 1025;
-        let side = next + 1 - over[k];
         end = visit::visit(
             states,
             queue,
@@ -52,10 +49,11 @@ pub fn expand(
             ranks,
             end,
             state,
-            next,
-            to,
-            side,
-            index + over[k] - 1,
+            index,
+            index + steps[k] - width - 1,
+            point,
+            over[k],
+            down[k],
         );
     }
     end

@@ -3,7 +3,7 @@ use mathlib.Core.Path.{_≡_}
 use mathlib.Core.Logic.{_≢_}
 use mathlib.Core.Bool.{Bool, not, _&&_}
 use mathlib.Core.List.{List}
-use Prim.Native.Nat.{ℕ, _+_, _<_}
+use Prim.Native.Nat.{ℕ, _+_, _*_, _≤_, _<_}
 use lib.Dec.{T, ltb}
 use lib.ListN.{length, set}
 use Rattle.disjoint.specs.Forest.{of, Forest}
@@ -13,6 +13,17 @@ use Rattle.labels.specs.Growth.{Met}
 -- "both ends walkable; a diagonal step also needs both cells that share a side with both ends to be walkable"
 unfoldable pub opens : List ℕ → ℕ → ℕ → ℕ → Bool
 opens states next first second = ltb 0 (of states next) && (ltb 0 (of states first) && ltb 0 (of states second))
+
+-- the numbers of a move by over - 1 columns and down - 1 rows: none is too large, and no difference stops at 0
+pub record MoveFits (index next point over down : ℕ) : Type 0 where
+  pub across : over ≤ 2
+  pub along : down ≤ 2
+  pub here : index < 1048576
+  pub there : next < 1048576
+  pub place : point < 1048576
+  pub first : over ≤ next + 1
+  pub second : 1 ≤ index + over
+  pub low : 1025 ≤ point + (down * 1024 + over)
 
 -- the move's cells are in the map, the queue has room for a cell that is labelled, and a label met is one of a resource
 pub record MayVisit (states queue parents ranks : List ℕ) (tail state next first second : ℕ) : Type 0 where

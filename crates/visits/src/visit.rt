@@ -2,8 +2,8 @@
 use labels::meet;
 ghost use mathlib.Core.Path.{_≡_};
 ghost use lib.ListN.{length};
-ghost use Prim.Native.Nat.{_<_};
-ghost use Rattle.visits.specs.Visits.{opens, MayVisit, Visited};
+ghost use Prim.Native.Nat.{_+_, _*_, _-_, _<_};
+ghost use Rattle.visits.specs.Visits.{opens, MoveFits, MayVisit, Visited};
 
 // The next cell and the two that share a side with both ends are walkable. Of a straight move those are the two ends.
 pub fn open(states: &[u16], next: usize, first: usize, second: usize) -> bool
@@ -19,7 +19,8 @@ pub fn open(states: &[u16], next: usize, first: usize, second: usize) -> bool
     states[second] > 0
 }
 
-// Labels the next cell one deeper and puts it into the queue, or meets the label that it has; answers how many entries the queue has then.
+// Makes the move by over - 1 columns and down - 1 rows from the cell at a point: labels the next cell one deeper and puts it into the queue, or meets the label that it has; answers how many entries
+// the queue has then.
 pub fn visit(
     states: &mut [u16],
     queue: &mut [u32],
@@ -27,16 +28,18 @@ pub fn visit(
     ranks: &mut [u8],
     tail: usize,
     state: u16,
+    index: usize,
     next: usize,
     point: u32,
-    first: usize,
-    second: usize,
+    over: usize,
+    down: usize,
 ) -> usize
-    requires { ⌜ MayVisit (now states) (now queue) (now parents) (now ranks) tail state next first second ⌝ }
-    ensures { λ r. ⌜ Visited (now (states .entry)) (now (queue .entry)) (now (parents .entry)) (now (ranks .entry)) tail state next point first second
+    requires { ⌜ MoveFits index next point over down × MayVisit (now states) (now queue) (now parents) (now ranks) tail state next (next + 1 - over) (index + over - 1) ⌝ }
+    ensures { λ r. ⌜ Visited (now (states .entry)) (now (queue .entry)) (now (parents .entry)) (now (ranks .entry)) tail
+        state next (point + (down * 1024 + over) - 1025) (next + 1 - over) (index + over - 1)
         (now (states .exit)) (now (queue .exit)) (now (parents .exit)) (now (ranks .exit)) r ⌝ }
 {
-    if !open(states, next, first, second) {
+    if !open(states, next, next + 1 - over, index + over - 1) {
         return tail;
     }
     if states[next] != 65535 {
@@ -44,6 +47,6 @@ pub fn visit(
         return tail;
     }
     states[next] = state + 1;
-    queue[tail] = point;
+    queue[tail] = point + (down * 1024 + over) as u32 - 1025;
     tail + 1
 }

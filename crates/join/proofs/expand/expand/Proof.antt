@@ -2,7 +2,8 @@
 use mathlib.Core.Path.{_≡_, refl, sym, _∙_}
 use Prim.Native.Nat.{_-_, _≤_}
 use native.Mathlib.Omega.{arith}
-use Rattle.join.proofs.Rounds.{Round, round-none, round-may, round-on, round-done, head-cell, head-queued, few-cells, sizes, may-at, visited-at}
+use Rattle.disjoint.specs.Forest.{of}
+use Rattle.join.proofs.Rounds.{Round, round-none, round-may, round-on, round-done, head-cell, head-queued, few-cells, Sizes, sizes, may-at, visited-at}
 use Rattle.join.proofs.Searching.{here-in}
 use Rattle.join.proofs.expand.expand.Statement.{statement}
 use Rattle.join.proofs.expand.expand.Tie as tie
@@ -48,92 +49,56 @@ loop-holds c = (omega arith, round-none (c .before .before .before .before .befo
 element-copy-out-k : tie.Need-element-copy-out-k Inv-loop μ-loop
 element-copy-out-k c = omega (arith, c .before .before .listed .ensures .few, c .loop-test .taken)
 
+-- the numbers of the move
+numbers : (c : tie.After-k Inv-loop μ-loop) → Sizes (c .before .before .before .before .before .before .before .before .before .before .before .before .args .width) (of (c .before .before .before .before .before .before .before .before .before .before .before .before .args .queue .now) (c .before .before .before .before .before .before .before .before .before .before .before .before .args .head)) (of (c .before .before .before .listed .last .1 .1 .1 .1 .1 .1 .1 .1 .1 .0) (c .before .before .loop .j)) (of (c .before .before .before .before .before .before .before .before .before .before .before .before .args .over .now) (of (c .before .before .before .listed .last .1 .1 .1 .1 .1 .1 .1 .1 .1 .0) (c .before .before .loop .j))) (of (c .before .before .before .before .before .before .before .before .before .before .before .before .args .down .now) (of (c .before .before .before .listed .last .1 .1 .1 .1 .1 .1 .1 .1 .1 .0) (c .before .before .loop .j))) (of (c .before .before .before .before .before .before .before .before .before .before .before .before .args .steps .now) (of (c .before .before .before .listed .last .1 .1 .1 .1 .1 .1 .1 .1 .1 .0) (c .before .before .loop .j)))
+numbers c = sizes (c .before .before .before .before .before .before .before .before .before .before .before .before .pre) (c .before .before .before .listed .ensures) (c .before .before .loop .j) (c .before .loop-test .taken)
+
 cast-k : tie.Need-cast-k Inv-loop μ-loop
-cast-k c = omega (arith, (sizes (c .before .before .before .before .before .before .before .before .before .before .before .before .pre) (c .before .before .before .listed .ensures) (c .before .before .loop .j) (c .before .loop-test .taken)) .low)
-
-mul-next : tie.Need-mul-next Inv-loop μ-loop
-mul-next c = omega (arith, (sizes (c .before .before .before .before .before .before .before .before .before .before .before .before .pre) (c .before .before .before .listed .ensures) (c .before .before .loop .j) (c .before .loop-test .taken)) .low)
-
-element-copy-out-next : tie.Need-element-copy-out-next Inv-loop μ-loop
-element-copy-out-next c = (sizes (c .before .before .before .before .before .before .before .before .before .before .before .before .pre) (c .before .before .before .listed .ensures) (c .before .before .loop .j) (c .before .loop-test .taken)) .low
-
-add-next : tie.Need-add-next Inv-loop μ-loop
-add-next c = (sizes (c .before .before .before .before .before .before .before .before .before .before .before .before .before .pre) (c .before .before .before .before .listed .ensures) (c .before .before .before .loop .j) (c .before .before .loop-test .taken)) .step-fits
-
-sub-next : tie.Need-sub-next Inv-loop μ-loop
-sub-next c = (sizes (c .before .before .before .before .before .before .before .before .before .before .before .before .before .pre) (c .before .before .before .before .listed .ensures) (c .before .before .before .loop .j) (c .before .before .loop-test .taken)) .step-low
-
-sub-next-2 : tie.Need-sub-next-2 Inv-loop μ-loop
-sub-next-2 c = (sizes (c .before .before .before .before .before .before .before .before .before .before .before .before .before .pre) (c .before .before .before .before .listed .ensures) (c .before .before .before .loop .j) (c .before .before .loop-test .taken)) .step-some
-
-mul-to : tie.Need-mul-to Inv-loop μ-loop
-mul-to c = omega (arith, (sizes (c .before .before .before .before .before .before .before .before .before .before .before .before .before .pre) (c .before .before .before .before .listed .ensures) (c .before .before .before .loop .j) (c .before .before .loop-test .taken)) .low)
-
-element-copy-out-to : tie.Need-element-copy-out-to Inv-loop μ-loop
-element-copy-out-to c = (sizes (c .before .before .before .before .before .before .before .before .before .before .before .before .before .pre) (c .before .before .before .before .listed .ensures) (c .before .before .before .loop .j) (c .before .before .loop-test .taken)) .low
-
-mul-to-2 : tie.Need-mul-to-2 Inv-loop μ-loop
-mul-to-2 c = (sizes (c .before .before .before .before .before .before .before .before .before .before .before .before .before .before .pre) (c .before .before .before .before .before .listed .ensures) (c .before .before .before .before .loop .j) (c .before .before .before .loop-test .taken)) .rows-fit
-
-mul-to-3 : tie.Need-mul-to-3 Inv-loop μ-loop
-mul-to-3 c = omega (arith, (sizes (c .before .before .before .before .before .before .before .before .before .before .before .before .before .before .pre) (c .before .before .before .before .before .listed .ensures) (c .before .before .before .before .loop .j) (c .before .before .before .loop-test .taken)) .low)
-
-element-copy-out-to-2 : tie.Need-element-copy-out-to-2 Inv-loop μ-loop
-element-copy-out-to-2 c = (sizes (c .before .before .before .before .before .before .before .before .before .before .before .before .before .before .pre) (c .before .before .before .before .before .listed .ensures) (c .before .before .before .before .loop .j) (c .before .before .before .loop-test .taken)) .low
-
-add-to : tie.Need-add-to Inv-loop μ-loop
-add-to c = (sizes (c .before .before .before .before .before .before .before .before .before .before .before .before .before .before .before .pre) (c .before .before .before .before .before .before .listed .ensures) (c .before .before .before .before .before .loop .j) (c .before .before .before .before .loop-test .taken)) .move-fits
-
-cast-to : tie.Need-cast-to Inv-loop μ-loop
-cast-to c = (sizes (c .before .before .before .before .before .before .before .before .before .before .before .before .before .before .before .pre) (c .before .before .before .before .before .before .listed .ensures) (c .before .before .before .before .before .loop .j) (c .before .before .before .before .loop-test .taken)) .move-short
-
-add-to-2 : tie.Need-add-to-2 Inv-loop μ-loop
-add-to-2 c = (sizes (c .before .before .before .before .before .before .before .before .before .before .before .before .before .before .before .pre) (c .before .before .before .before .before .before .listed .ensures) (c .before .before .before .before .before .loop .j) (c .before .before .before .before .loop-test .taken)) .to-fits
-
-sub-to : tie.Need-sub-to Inv-loop μ-loop
-sub-to c = (sizes (c .before .before .before .before .before .before .before .before .before .before .before .before .before .before .before .pre) (c .before .before .before .before .before .before .listed .ensures) (c .before .before .before .before .before .loop .j) (c .before .before .before .before .loop-test .taken)) .to-low
-
-add-side : tie.Need-add-side Inv-loop μ-loop
-add-side c = (sizes (c .before .before .before .before .before .before .before .before .before .before .before .before .before .before .before .pre) (c .before .before .before .before .before .before .listed .ensures) (c .before .before .before .before .before .loop .j) (c .before .before .before .before .loop-test .taken)) .next-fits
-
-mul-side : tie.Need-mul-side Inv-loop μ-loop
-mul-side c = omega (arith, (sizes (c .before .before .before .before .before .before .before .before .before .before .before .before .before .before .before .pre) (c .before .before .before .before .before .before .listed .ensures) (c .before .before .before .before .before .loop .j) (c .before .before .before .before .loop-test .taken)) .low)
-
-element-copy-out-side : tie.Need-element-copy-out-side Inv-loop μ-loop
-element-copy-out-side c = (sizes (c .before .before .before .before .before .before .before .before .before .before .before .before .before .before .before .pre) (c .before .before .before .before .before .before .listed .ensures) (c .before .before .before .before .before .loop .j) (c .before .before .before .before .loop-test .taken)) .low
-
-sub-side : tie.Need-sub-side Inv-loop μ-loop
-sub-side c = (sizes (c .before .before .before .before .before .before .before .before .before .before .before .before .before .before .before .before .pre) (c .before .before .before .before .before .before .before .listed .ensures) (c .before .before .before .before .before .before .loop .j) (c .before .before .before .before .before .loop-test .taken)) .side-low
+cast-k c = omega (arith, numbers c .low)
 
 mul-visit : tie.Need-mul-visit Inv-loop μ-loop
-mul-visit c = omega (arith, (sizes (c .before .before .before .before .before .before .before .before .before .before .before .before .before .before .before .before .before .before .before .before .pre) (c .before .before .before .before .before .before .before .before .before .before .before .listed .ensures) (c .before .before .before .before .before .before .before .before .before .before .loop .j) (c .before .before .before .before .before .before .before .before .before .loop-test .taken)) .low)
+mul-visit c = omega (arith, numbers (c .before .before .before .before) .low)
 
 element-copy-out-visit : tie.Need-element-copy-out-visit Inv-loop μ-loop
-element-copy-out-visit c = (sizes (c .before .before .before .before .before .before .before .before .before .before .before .before .before .before .before .before .before .before .before .before .pre) (c .before .before .before .before .before .before .before .before .before .before .before .listed .ensures) (c .before .before .before .before .before .before .before .before .before .before .loop .j) (c .before .before .before .before .before .before .before .before .before .loop-test .taken)) .low
+element-copy-out-visit c = numbers (c .before .before .before .before) .low
 
 add-visit : tie.Need-add-visit Inv-loop μ-loop
-add-visit c = (sizes (c .before .before .before .before .before .before .before .before .before .before .before .before .before .before .before .before .before .before .before .before .before .pre) (c .before .before .before .before .before .before .before .before .before .before .before .before .listed .ensures) (c .before .before .before .before .before .before .before .before .before .before .before .loop .j) (c .before .before .before .before .before .before .before .before .before .before .loop-test .taken)) .over-fits
+add-visit c = numbers (c .before .before .before .before .before) .step-fits
 
 sub-visit : tie.Need-sub-visit Inv-loop μ-loop
-sub-visit c = (sizes (c .before .before .before .before .before .before .before .before .before .before .before .before .before .before .before .before .before .before .before .before .before .pre) (c .before .before .before .before .before .before .before .before .before .before .before .before .listed .ensures) (c .before .before .before .before .before .before .before .before .before .before .before .loop .j) (c .before .before .before .before .before .before .before .before .before .before .loop-test .taken)) .over-low
+sub-visit c = numbers (c .before .before .before .before .before) .step-low
+
+sub-visit-2 : tie.Need-sub-visit-2 Inv-loop μ-loop
+sub-visit-2 c = numbers (c .before .before .before .before .before) .step-some
+
+mul-visit-2 : tie.Need-mul-visit-2 Inv-loop μ-loop
+mul-visit-2 c = omega (arith, numbers (c .before .before .before .before .before) .low)
+
+element-copy-out-visit-2 : tie.Need-element-copy-out-visit-2 Inv-loop μ-loop
+element-copy-out-visit-2 c = numbers (c .before .before .before .before .before) .low
+
+mul-visit-3 : tie.Need-mul-visit-3 Inv-loop μ-loop
+mul-visit-3 c = omega (arith, numbers (c .before .before .before .before .before .before) .low)
+
+element-copy-out-visit-3 : tie.Need-element-copy-out-visit-3 Inv-loop μ-loop
+element-copy-out-visit-3 c = numbers (c .before .before .before .before .before .before) .low
 
 visit-requires : tie.Need-visit-requires Inv-loop μ-loop
 visit-requires c κs =
-    let z = (sizes (c .before .before .before .before .before .before .before .before .before .before .before .before .before .before .before .before .before .before .before .before .before .pre) (c .before .before .before .before .before .before .before .before .before .before .before .before .listed .ensures) (c .before .before .before .before .before .before .before .before .before .before .before .loop .j) (c .before .before .before .before .before .before .before .before .before .before .loop-test .taken)) in
-    let o = c .before .before .before .before .before .before .before .before .before .before .before .before .listed .ensures .only (c .before .before .before .before .before .before .before .before .before .before .before .loop .j) (c .before .before .before .before .before .before .before .before .before .before .loop-test .taken) in
-    may-at z (round-may (c .before .before .before .before .before .before .before .before .before .before .before .before .before .before .before .before .before .before .before .before .before .pre) (c .before .before .before .before .before .before .before .before .before .before .before .loop .inv .1) refl (o .0) (o .1))
+    let z = numbers (c .before .before .before .before .before .before .before) in
+    let o = c .before .before .before .before .before .before .before .before .before .before .listed .ensures .only (c .before .before .before .before .before .before .before .before .before .loop .j) (c .before .before .before .before .before .before .before .before .loop-test .taken) in
+    (z .fits, may-at z (round-may (c .before .before .before .before .before .before .before .before .before .before .before .before .before .before .before .before .before .before .before .pre) (c .before .before .before .before .before .before .before .before .before .loop .inv .1) refl (o .0) (o .1)))
 
 add-j : tie.Need-add-j Inv-loop μ-loop
-add-j c = omega (arith, c .before .before .before .before .before .before .before .before .before .before .before .before .before .before .before .before .before .before .before .before .before .listed .ensures .few, c .before .before .before .before .before .before .before .before .before .before .before .before .before .before .before .before .before .before .before .loop-test .taken)
+add-j c = omega (arith, c .before .before .before .before .before .before .before .before .before .before .before .before .before .before .before .before .before .before .before .listed .ensures .few, c .before .before .before .before .before .before .before .before .before .before .before .before .before .before .before .before .before .loop-test .taken)
 
 loop-less : tie.Need-loop-less Inv-loop μ-loop
-loop-less c = omega (arith, c .before .before .before .before .before .before .before .before .before .before .before .before .before .before .before .before .before .before .before .loop-test .taken)
+loop-less c = omega (arith, c .before .before .before .before .before .before .before .before .before .before .before .before .before .before .before .before .before .loop-test .taken)
 
 loop-again : tie.Need-loop-again Inv-loop μ-loop
 loop-again c =
-    let z = (sizes (c .before .before .before .before .before .before .before .before .before .before .before .before .before .before .before .before .before .before .before .before .before .before .before .before .before .before .before .before .before .before .pre) (c .before .before .before .before .before .before .before .before .before .before .before .before .before .before .before .before .before .before .before .before .before .listed .ensures) (c .before .before .before .before .before .before .before .before .before .before .before .before .before .before .before .before .before .before .before .before .loop .j) (c .before .before .before .before .before .before .before .before .before .before .before .before .before .before .before .before .before .before .before .loop-test .taken)) in
-    let o = c .before .before .before .before .before .before .before .before .before .before .before .before .before .before .before .before .before .before .before .before .before .listed .ensures .only (c .before .before .before .before .before .before .before .before .before .before .before .before .before .before .before .before .before .before .before .before .loop .j) (c .before .before .before .before .before .before .before .before .before .before .before .before .before .before .before .before .before .before .before .loop-test .taken) in
-    (omega (arith, c .before .before .before .before .before .before .before .before .before .before .before .before .before .before .before .before .before .before .before .loop-test .taken), round-on (c .before .before .before .before .before .before .before .before .before .before .before .before .before .before .before .before .before .before .before .before .before .before .before .before .before .before .before .before .before .before .pre) (c .before .before .before .before .before .before .before .before .before .before .before .before .before .before .before .before .before .before .before .before .loop .inv .1) refl (o .0) (o .1) (visited-at z (c .before .before .before .before .before .before .before .before .visit .ensures)))
+    let o = c .before .before .before .before .before .before .before .before .before .before .before .before .before .before .before .before .before .before .before .listed .ensures .only (c .before .before .before .before .before .before .before .before .before .before .before .before .before .before .before .before .before .before .loop .j) (c .before .before .before .before .before .before .before .before .before .before .before .before .before .before .before .before .before .loop-test .taken) in
+    (omega (arith, c .before .before .before .before .before .before .before .before .before .before .before .before .before .before .before .before .before .loop-test .taken), round-on (c .before .before .before .before .before .before .before .before .before .before .before .before .before .before .before .before .before .before .before .before .before .before .before .before .before .before .before .before .pre) (c .before .before .before .before .before .before .before .before .before .before .before .before .before .before .before .before .before .before .loop .inv .1) refl (o .0) (o .1) (visited-at (numbers (c .before .before .before .before .before .before .before .before .before .before .before .before .before .before .before .before)) (c .before .before .before .before .before .before .before .before .visit .ensures)))
 
 same-length : tie.Need-same-length Inv-loop μ-loop
 same-length c = c .before .loop .inv .1 .searching .cells ∙ sym (c .before .before .before .before .before .before .before .before .before .before .before .pre .searching .cells)
@@ -171,28 +136,15 @@ expand-spec =
     loop-holds
     element-copy-out-k
     cast-k
-    mul-next
-    element-copy-out-next
-    add-next
-    sub-next
-    sub-next-2
-    mul-to
-    element-copy-out-to
-    mul-to-2
-    mul-to-3
-    element-copy-out-to-2
-    add-to
-    cast-to
-    add-to-2
-    sub-to
-    add-side
-    mul-side
-    element-copy-out-side
-    sub-side
     mul-visit
     element-copy-out-visit
     add-visit
     sub-visit
+    sub-visit-2
+    mul-visit-2
+    element-copy-out-visit-2
+    mul-visit-3
+    element-copy-out-visit-3
     visit-requires
     add-j
     loop-less
