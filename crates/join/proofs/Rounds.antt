@@ -327,9 +327,9 @@ module _ {width p k a b step : ℕ} (z : Sizes width p k a b step) {states queue
       MayVisit states queue parents ranks tail state ((p / 1024 * width + p % 1024) + step - width - 1) ((p / 1024 * width + p % 1024) + step - width - 1 + 1 - a) ((p / 1024 * width + p % 1024) + a - 1)
   may-at m = rw (z .next, z .side, z .second) m
 
-  pub visited-at : {point : ℕ} {states′ queue′ parents′ ranks′ : List ℕ} {tail′ : ℕ} →
-      Visited states queue parents ranks tail state ((p / 1024 * width + p % 1024) + step - width - 1) point ((p / 1024 * width + p % 1024) + step - width - 1 + 1 - a) ((p / 1024 * width + p % 1024) + a - 1)
+  pub visited-at : {states′ queue′ parents′ ranks′ : List ℕ} {tail′ : ℕ} →
+      Visited states queue parents ranks tail state ((p / 1024 * width + p % 1024) + step - width - 1) (p + (b * 1024 + a) - 1025) ((p / 1024 * width + p % 1024) + step - width - 1 + 1 - a) ((p / 1024 * width + p % 1024) + a - 1)
       states′ queue′ parents′ ranks′ tail′ →
-      Visited states queue parents ranks tail state (nextOf width (p % 1024) (p / 1024) a b) point ((p / 1024 + b - 1) * width + p % 1024) (p / 1024 * width + (p % 1024 + a - 1))
+      Visited states queue parents ranks tail state (nextOf width (p % 1024) (p / 1024) a b) (p + (b * 1024 + a) - 1025) ((p / 1024 + b - 1) * width + p % 1024) (p / 1024 * width + (p % 1024 + a - 1))
       states′ queue′ parents′ ranks′ tail′
   visited-at v = rw (z .next, z .side, z .second) at v

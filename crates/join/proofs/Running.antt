@@ -28,6 +28,17 @@ module _ {width height : ℕ} {states₀ parents₀ states queue parents ranks :
   pub queue-room : tail ≤ length queue
   queue-room = let S = R .searching in omega (arith, queue-in (S .turn), S .cells, S .room)
 
+  -- the buffers are as long as at the start
+  module _ {queue₀ ranks₀ : List ℕ} {seeds : ℕ} (B : Seeded width height states₀ queue₀ parents₀ ranks₀ seeds) where
+    pub same-states : length states ≡ length states₀
+    same-states = R .searching .cells ∙ sym (B .searching .cells)
+
+    pub same-queue : length queue ≡ length queue₀
+    same-queue = R .searching .room ∙ sym (B .searching .room)
+
+    pub same-ranks : length ranks ≡ length ranks₀
+    same-ranks = R .grown .forest .long ∙ R .grown .size ∙ sym (B .forest .long)
+
   pub turning : {over down steps list : List ℕ} → head < tail → (depthOf (of states (cellOf width (of queue head))) ≡ 16 → ⊥) → Table width over down steps → length list ≡ 9 →
       Turning width height states queue parents ranks over down steps list tail head
   turning more n t l =
