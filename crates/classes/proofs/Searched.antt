@@ -15,7 +15,8 @@ use Rattle.walkgraph.proofs.DisjointSet.{Same, same-back, same-chain}
 use Rattle.walkgraph.proofs.SearchEnd.{linked-over}
 use Rattle.disjoint.specs.Forest.{of}
 use Rattle.labels.specs.Labels.{ownerOf}
-use Rattle.join.specs.Search.{Seeds, Links, Seeded, Ran}
+use Rattle.visits.specs.SearchState.{Seeds, Links}
+use Rattle.join.specs.Search.{Seeded, Ran}
 use Rattle.join.proofs.Running.{same-any, ran-joins}
 use Rattle.numbering.specs.Fields.{FieldNumbers}
 use Rattle.numbering.proofs.Giving.{fields-numbered}

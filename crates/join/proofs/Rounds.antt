@@ -24,11 +24,12 @@ use Rattle.labels.specs.Growth.{Grown}
 use Rattle.picks.specs.Picks.{within, isInside, highest}
 use Rattle.visits.specs.Visits.{opens, MoveFits, MayVisit, Visited}
 use Rattle.picks.specs.Listed.{Table, OnMap, Listed}
-use Rattle.join.specs.Search.{isLabel, Walks, Links, Searching, Alike, Moved, Turning, Expanded}
+use Rattle.visits.specs.SearchState.{isLabel, Walks, Links, Searching, Alike, Moved}
+use Rattle.join.specs.Search.{Turning, Expanded}
 use Rattle.labels.proofs.Growing.{grown-none, grown-more, grown-chain, same-self}
-use Rattle.join.proofs.Moves.{row-moved, next-is, Inside, Opened, step-opened}
+use Rattle.visits.proofs.Moves.{row-moved, next-is, Inside, Opened, step-opened}
 use Rattle.picks.proofs.Listing.{within-is}
-use Rattle.join.proofs.Searching.{is-label, alike-self, alike-chain, alike-links, here-label, here-in, may-visit, visit-moved}
+use Rattle.visits.proofs.Searching.{is-label, alike-self, alike-chain, alike-links, here-label, here-in, may-visit, visit-moved}
 
 -- the cells of a move from (x, y) by a - 1 columns and b - 1 rows
 abbrev pub nextOf : ℕ → ℕ → ℕ → ℕ → ℕ → ℕ

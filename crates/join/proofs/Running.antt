@@ -16,9 +16,10 @@ use Rattle.walkgraph.proofs.SearchEnd.{joined}
 use Rattle.disjoint.specs.Forest.{of, Forest}
 use Rattle.labels.specs.Labels.{depthOf, cellOf}
 use Rattle.picks.specs.Listed.{Table}
-use Rattle.join.specs.Search.{isLabel, Walks, Seeds, Links, Turning, Expanded, Seeded, Running, Ran}
+use Rattle.visits.specs.SearchState.{isLabel, Walks, Seeds, Links}
+use Rattle.join.specs.Search.{Turning, Expanded, Seeded, Running, Ran}
 use Rattle.labels.proofs.Growing.{grown-none, grown-more, grown-chain, same-self}
-use Rattle.join.proofs.Searching.{alike-self, alike-chain, alike-links, here-label, is-label}
+use Rattle.visits.proofs.Searching.{alike-self, alike-chain, alike-links, here-label, is-label}
 
 pub running-none : {width height : ℕ} {states queue parents ranks : List ℕ} {seeds : ℕ} → Seeded width height states queue parents ranks seeds →
     Running width height states parents states queue parents ranks seeds 0

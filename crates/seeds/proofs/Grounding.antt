@@ -17,10 +17,10 @@ use Rattle.walkgraph.proofs.Tally.{tally-sum}
 use Rattle.walkgraph.proofs.DisjointSet.{Same, root-self}
 use Rattle.disjoint.specs.Forest.{of, Begun}
 use Rattle.labels.specs.Labels.{depthOf}
-use Rattle.join.specs.Search.{isLabel, Walks, Seeds, Planting}
-use Rattle.join.proofs.Searching.{label-low, label-high}
-use Rattle.seeds.specs.Sown.{Sowable, Sown}
-use Rattle.seeds.specs.Sowing.{Grounded, SownTo, OfCall, MaySowAll, SowsAll, MaySeed}
+use Rattle.visits.specs.SearchState.{isLabel, Walks, Seeds, Planting}
+use Rattle.visits.proofs.Searching.{label-low, label-high}
+use Rattle.seeds.specs.Sown.{Sowable}
+use Rattle.seeds.specs.Sowing.{Grounded, SownTo, MaySeed}
 
 -- past its end a list reads as 0
 past-end : (l : List ℕ) (k : ℕ) → length l ≤ k → of l k ≡ 0
@@ -111,7 +111,7 @@ module _ {i : JoinInput} {before states queue members parents old ranks : List �
       let e : r ≡ s = sym (root-self (N .alone r h) (q .left)) ∙ root-self (N .alone s k) (q .right) in
       rw e alone
 
-  sown-none : SownTo i 0 0 states queue parents ranks 0
+  pub sown-none : SownTo i 0 0 states queue parents ranks 0
   sown-none =
       record {
         planting = planting;
@@ -122,14 +122,3 @@ module _ {i : JoinInput} {before states queue members parents old ranks : List �
         only = λ s x y q. absurd (no-seed s x y q);
         joined = alone-joined;
       }
-
-  -- all lists can be labelled then
-  itself : OfCall i width (i .indices) (i .ends)
-  itself = record { sowable = M .sowable; wide = refl; list = refl; lists = refl }
-
-  pub may-sow-all : MaySowAll width (i .indices) (i .ends) states queue parents ranks
-  may-sow-all = record { input = i; call = itself; sown = sown-none }
-
-  pub all-sown : {states′ queue′ parents′ ranks′ : List ℕ} {tail′ : ℕ} → SowsAll width (i .indices) (i .ends) states queue parents ranks states′ queue′ parents′ ranks′ tail′ →
-      Sown i (length (i .ends)) states′ queue′ parents′ ranks′ tail′
-  all-sown s = s i itself sown-none

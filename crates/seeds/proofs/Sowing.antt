@@ -19,12 +19,12 @@ use Rattle.disjoint.specs.Forest.{of}
 use Rattle.labels.specs.Labels.{ownerOf, depthOf, cellOf}
 use Rattle.labels.specs.Growth.{Chained, Close, Met}
 use Rattle.visits.specs.Plants.{MayPlant, Planted, shut, labelled, met}
-use Rattle.join.specs.Search.{Walks, Seeds, Planting}
+use Rattle.visits.specs.SearchState.{Walks, Seeds, Planting}
 use Rattle.labels.proofs.Growing.{same-self}
-use Rattle.join.proofs.Searching.{is-label, at-new, at-old, walks-on, walks-off}
-use Rattle.join.proofs.Planting.{may-plant, plant-planted}
+use Rattle.visits.proofs.Searching.{is-label, at-new, at-old, walks-on, walks-off}
+use Rattle.visits.proofs.Planting.{may-plant, plant-planted}
 use Rattle.seeds.specs.Sown.{Sowable, Sown}
-use Rattle.seeds.specs.Sowing.{pointOf, Done, SownTo, OfList, OfCall}
+use Rattle.seeds.specs.Sowing.{pointOf, Done, SownTo, OfList, MaySeed}
 
 -- ---- the point of an index
 pub point-column : (width index : ℕ) → 1 ≤ width → width ≤ 1024 → pointOf width index % 1024 ≡ index % width
@@ -221,34 +221,32 @@ module _ {i : JoinInput} {r k : ℕ} {states queue parents ranks : List ℕ} {ta
   sown-more (labelled e) = sown-new e
   sown-more (met n m g) = sown-met n m g
 
--- ---- one place of a list, and the list
+-- ---- a place of a list
 module _ {i : JoinInput} {width : ℕ} {indices : List ℕ} {r from to : ℕ} (L : OfList i width indices r from to) where
-  pub of-place : {k : ℕ} → from ≤ k → k < to → OfList i width indices r k (k + 1)
-  of-place h k = record { sowable = L .sowable; wide = L .wide; list = L .list; resource = L .resource; low = omega (arith, L .low); rise = omega arith; high = omega (arith, L .high) }
-
   pub few-resources : r < 512
   few-resources = omega (arith, L .resource, L .sowable .few)
 
   pub wide-enough : (1 ≤ width) × (width ≤ 1024)
   wide-enough = rw (← (L .wide)) (L .sowable .wide)
 
-module _ {i : JoinInput} {width : ℕ} {indices : List ℕ} {r k : ℕ} (L : OfList i width indices r k (k + 1)) where
-  pub in-list : k < length indices
-  in-list = rw (← (L .list)) (omega (arith, L .high, L .sowable .high r (L .resource)))
+  module _ {k : ℕ} (h : from ≤ k) (l : k < to) where
+    in-lists : k < length (i .indices)
+    in-lists = omega (arith, L .high, L .sowable .high r (L .resource))
 
-  pub index-small : getD indices k 0 < 1048576
-  index-small =
-      let s = L .sowable in
-      rw (← (L .list)) (omega (arith, s .cell k (omega (arith, L .high, s .high r (L .resource))), mul-le-mul (s .tall .1) (s .wide .1)))
+    pub in-list : k < length indices
+    in-list = rw (← (L .list)) in-lists
 
-  module _ {states queue parents ranks : List ℕ} {tail : ℕ} (B : SownTo i r k states queue parents ranks tail) where
-    pub place-may : {label : ℕ} → label ≡ 32 * (r + 1) → MayPlant states queue parents ranks tail label (getD indices k 0)
-    place-may e = rw (e, ← (L .list)) (sow-may (L .sowable) B (L .resource) (L .low) (omega (arith, L .high)))
+    pub index-small : getD indices k 0 < 1048576
+    index-small = let s = L .sowable in rw (← (L .list)) (omega (arith, s .cell k in-lists, mul-le-mul (s .tall .1) (s .wide .1)))
 
-    pub place-sown : {label : ℕ} {states′ queue′ parents′ ranks′ : List ℕ} {tail′ : ℕ} →
-        Planted states queue parents ranks tail label (getD indices k 0) (pointOf width (getD indices k 0)) states′ queue′ parents′ ranks′ tail′ → label ≡ 32 * (r + 1) →
-        SownTo i r (k + 1) states′ queue′ parents′ ranks′ tail′
-    place-sown p e = sown-more (L .sowable) B (L .resource) (L .low) (omega (arith, L .high)) (rw (e, ← (L .wide), ← (L .list)) at p)
+    module _ {states queue parents ranks : List ℕ} {tail : ℕ} (B : SownTo i r k states queue parents ranks tail) where
+      pub place-may : {label : ℕ} → label ≡ 32 * (r + 1) → MayPlant states queue parents ranks tail label (getD indices k 0)
+      place-may e = rw (e, ← (L .list)) (sow-may (L .sowable) B (L .resource) (omega (arith, L .low)) (omega (arith, L .high)))
+
+      pub place-sown : {label : ℕ} {states′ queue′ parents′ ranks′ : List ℕ} {tail′ : ℕ} →
+          Planted states queue parents ranks tail label (getD indices k 0) (pointOf width (getD indices k 0)) states′ queue′ parents′ ranks′ tail′ → label ≡ 32 * (r + 1) →
+          SownTo i r (k + 1) states′ queue′ parents′ ranks′ tail′
+      place-sown p e = sown-more (L .sowable) B (L .resource) (omega (arith, L .low)) (omega (arith, L .high)) (rw (e, ← (L .wide), ← (L .list)) at p)
 
 -- the lists keep their lengths
 module _ {i : JoinInput} {r s a b : ℕ} {states queue parents ranks states′ queue′ parents′ ranks′ : List ℕ} {tail tail′ : ℕ} (B : SownTo i r a states queue parents ranks tail)
@@ -264,6 +262,20 @@ module _ {i : JoinInput} {r s a b : ℕ} {states queue parents ranks states′ q
 
   pub long-ranks : length ranks′ ≡ length ranks
   long-ranks = A .planting .forest .long ∙ long-parents ∙ sym (B .planting .forest .long)
+
+module _ {i : JoinInput} {r a : ℕ} {states queue parents ranks states′ queue′ parents′ ranks′ : List ℕ} {tail : ℕ} (M : MaySeed i states queue parents ranks)
+    (A : SownTo i r a states′ queue′ parents′ ranks′ tail) where
+  pub seeded-states : length states′ ≡ length states
+  seeded-states = A .planting .searching .cells ∙ sym (M .cells)
+
+  pub seeded-queue : length queue′ ≡ length queue
+  seeded-queue = A .planting .searching .room ∙ sym (M .room)
+
+  pub seeded-parents : length parents′ ≡ length parents
+  seeded-parents = A .size ∙ sym (M .members)
+
+  pub seeded-ranks : length ranks′ ≡ length ranks
+  seeded-ranks = A .planting .forest .long ∙ A .size ∙ sym (M .long)
 
 -- ---- list after list
 pub start-next : (ends : List ℕ) (r : ℕ) → startOf ends (r + 1) ≡ getD ends r 0
@@ -307,20 +319,5 @@ sown-all B =
       joined = B .joined;
     }
 
-pub of-list : {i : JoinInput} {width : ℕ} {indices ends : List ℕ} {r from : ℕ} → OfCall i width indices ends → r < length ends → from ≡ startOf ends r → OfList i width indices r from (getD ends r 0)
-of-list {i} {ends = ends} {r = r} C h e =
-    let k : r < length (i .ends) = omega (arith, ap length (C .lists)) in
-    record {
-      sowable = C .sowable;
-      wide = C .wide;
-      list = C .list;
-      resource = k;
-      low = omega (arith, ap (λ l. startOf l r) (C .lists));
-      rise = omega (arith, ap (λ l. startOf l r) (C .lists), ap (λ l. getD l r 0) (C .lists), C .sowable .rise r k);
-      high = omega (arith, ap (λ l. getD l r 0) (C .lists));
-    }
-
--- list r is done
-pub lists-more : {i : JoinInput} {width : ℕ} {indices ends : List ℕ} {r : ℕ} {states queue parents ranks : List ℕ} {tail : ℕ} → OfCall i width indices ends →
-    SownTo i r (getD ends r 0) states queue parents ranks tail → SownTo i (r + 1) (getD ends r 0) states queue parents ranks tail
-lists-more {r = r} C B = sown-next (sym (ap (λ l. getD l r 0) (C .lists))) B
+pub of-list : {i : JoinInput} {r from : ℕ} → Sowable i → r < length (i .ends) → from ≡ startOf (i .ends) r → OfList i (i .width) (i .indices) r from (getD (i .ends) r 0)
+of-list {r = r} S h e = record { sowable = S; wide = refl; list = refl; resource = h; low = omega arith; rise = omega (arith, S .rise r h); high = omega arith }

@@ -9,8 +9,8 @@ use Rattle.walkgraph.specs.FieldsPromise.{JoinInput, startOf, WalkableOn, Acces
 use Rattle.walkgraph.proofs.DisjointSet.{Same}
 use Rattle.disjoint.specs.Forest.{of}
 use Rattle.labels.specs.Labels.{ownerOf, depthOf}
-use Rattle.join.specs.Search.{Walks, Seeds, Planting}
-use Rattle.seeds.specs.Sown.{Sowable, Sown}
+use Rattle.visits.specs.SearchState.{Walks, Seeds, Planting}
+use Rattle.seeds.specs.Sown.{Sowable}
 
 -- the states before any cell is labelled: 65,535 where the cell is walkable, 0 where not
 pub record Grounded (cells before states : List ℕ) : Type 0 where
@@ -59,29 +59,6 @@ SownSo width indices r from to place states queue parents ranks tail states′ q
 -- and where all are
 abbrev pub Sows : (width : ℕ) (indices : List ℕ) (r from to : ℕ) (states queue parents ranks : List ℕ) (tail : ℕ) (states′ queue′ parents′ ranks′ : List ℕ) (tail′ : ℕ) → Type 0
 Sows width indices r from to = SownSo width indices r from to to
-
--- an input of this width and with these lists
-pub record OfCall (i : JoinInput) (width : ℕ) (indices ends : List ℕ) : Type 0 where
-  pub sowable : Sowable i
-  pub wide : i .width ≡ width
-  pub list : i .indices ≡ indices
-  pub lists : i .ends ≡ ends
-
--- there is such an input, and nothing is labelled
-pub record MaySowAll (width : ℕ) (indices ends states queue parents ranks : List ℕ) : Type 0 where
-  pub input : JoinInput
-  pub call : OfCall input width indices ends
-  pub sown : SownTo input 0 0 states queue parents ranks 0
-
--- for each such input, the lists before r and the places before `place` are done
-abbrev pub SownOn : (width : ℕ) (indices ends : List ℕ) (r place : ℕ) (states queue parents ranks states′ queue′ parents′ ranks′ : List ℕ) (tail′ : ℕ) → Type 0
-SownOn width indices ends r place states queue parents ranks states′ queue′ parents′ ranks′ tail′ =
-    (i : JoinInput) → OfCall i width indices ends → SownTo i 0 0 states queue parents ranks 0 → SownTo i r place states′ queue′ parents′ ranks′ tail′
-
--- and where all are
-abbrev pub SowsAll : (width : ℕ) (indices ends states queue parents ranks states′ queue′ parents′ ranks′ : List ℕ) (tail′ : ℕ) → Type 0
-SowsAll width indices ends states queue parents ranks states′ queue′ parents′ ranks′ tail′ =
-    (i : JoinInput) → OfCall i width indices ends → SownTo i 0 0 states queue parents ranks 0 → Sown i (length ends) states′ queue′ parents′ ranks′ tail′
 
 -- the call is not refused, and the buffers are those of its map and its resources
 pub record MaySeed (i : JoinInput) (states queue parents ranks : List ℕ) : Type 0 where

@@ -8,7 +8,7 @@ use Rattle.walkgraph.specs.FieldsPromise.{JoinInput, startOf, WalkableOn, Acces
 use Rattle.walkgraph.proofs.DisjointSet.{Same}
 use Rattle.disjoint.specs.Forest.{of}
 use Rattle.labels.specs.Labels.{ownerOf, depthOf}
-use Rattle.join.specs.Search.{Walks, Seeds, Planting}
+use Rattle.visits.specs.SearchState.{Walks, Seeds, Planting}
 
 -- what a fields call is given
 abbrev pub inputOf : (width height : ℕ) (cells indices ends : List ℕ) → JoinInput

@@ -24,5 +24,23 @@ pub fn seed(
 {
     ground::ground(cells, states);
     find::begin(parents, ranks);
-    sow::sow_all(states, queue, parents, ranks, width, indices, ends)
+    let mut tail: usize = 0;
+    let mut from: usize = 0;
+    for r in 0..ends.len() {
+        let to = ends[r] as usize;
+        tail = sow::sow(
+            states,
+            queue,
+            parents,
+            ranks,
+            width,
+            indices,
+            r,
+            from,
+            to,
+            tail,
+        );
+        from = to;
+    }
+    tail
 }

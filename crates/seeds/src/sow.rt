@@ -1,8 +1,8 @@
-// The access cells of the resources, list by list.
+// The access cells of one resource.
 use visits::plant;
 ghost use mathlib.Core.Path.{_≡_};
-ghost use Prim.Native.Nat.{_+_, _≤_, _<_};
-ghost use Rattle.seeds.specs.Sowing.{pointOf, MaySow, Sows, MaySowAll, SowsAll};
+ghost use Prim.Native.Nat.{_≤_, _<_};
+ghost use Rattle.seeds.specs.Sowing.{pointOf, MaySow, Sows};
 
 // The point of the cell at an index: 1,024 times the row, plus the column.
 pub fn point_of(index: u32, width: u32) -> u32
@@ -12,36 +12,7 @@ pub fn point_of(index: u32, width: u32) -> u32
     index / width * 1024 + index % width
 }
 
-// Labels the access cell at place k, of resource r; answers how many entries the queue has then.
-pub fn sow_one(
-    states: &mut [u16],
-    queue: &mut [u32],
-    parents: &mut [u16],
-    ranks: &mut [u8],
-    width: u32,
-    indices: &[u32],
-    r: usize,
-    k: usize,
-    tail: usize,
-) -> usize
-    requires { ⌜ MaySow width (now indices) r k (k + 1) (now states) (now queue) (now parents) (now ranks) tail ⌝ }
-    ensures { λ e. ⌜ Sows width (now (indices .entry)) r k (k + 1) (now (states .entry)) (now (queue .entry)) (now (parents .entry)) (now (ranks .entry)) tail
-        (now (states .exit)) (now (queue .exit)) (now (parents .exit)) (now (ranks .exit)) e ⌝ }
-{
-    let index = indices[k];
-    plant::plant(
-        states,
-        queue,
-        parents,
-        ranks,
-        tail,
-        (32 * (r + 1)) as u16,
-        index as usize,
-        point_of(index, width),
-    )
-}
-
-// Labels the access cells of resource r: the places from..to.
+// Labels the access cells of resource r, the places from..to; answers how many entries the queue has then.
 pub fn sow(
     states: &mut [u16],
     queue: &mut [u32],
@@ -60,42 +31,17 @@ pub fn sow(
 {
     let mut end = tail;
     for k in from..to {
-        end = sow_one(states, queue, parents, ranks, width, indices, r, k, end);
-    }
-    end
-}
-
-// Labels the access cells of all resources, where none is labelled yet; answers how many entries the queue has then.
-pub fn sow_all(
-    states: &mut [u16],
-    queue: &mut [u32],
-    parents: &mut [u16],
-    ranks: &mut [u8],
-    width: u32,
-    indices: &[u32],
-    ends: &[u32],
-) -> usize
-    requires { ⌜ MaySowAll width (now indices) (now ends) (now states) (now queue) (now parents) (now ranks) ⌝ }
-    ensures { λ e. ⌜ SowsAll width (now (indices .entry)) (now (ends .entry)) (now (states .entry)) (now (queue .entry)) (now (parents .entry)) (now (ranks .entry))
-        (now (states .exit)) (now (queue .exit)) (now (parents .exit)) (now (ranks .exit)) e ⌝ }
-{
-    let mut tail: usize = 0;
-    let mut from: usize = 0;
-    for r in 0..ends.len() {
-        let to = ends[r] as usize;
-        tail = sow(
+        let index = indices[k];
+        end = plant::plant(
             states,
             queue,
             parents,
             ranks,
-            width,
-            indices,
-            r,
-            from,
-            to,
-            tail,
+            end,
+            (32 * (r + 1)) as u16,
+            index as usize,
+            point_of(index, width),
         );
-        from = to;
     }
-    tail
+    end
 }

@@ -4,7 +4,7 @@ use Prim.Native.Nat.{_-_, _≤_}
 use native.Mathlib.Omega.{arith}
 use Rattle.disjoint.specs.Forest.{of}
 use Rattle.join.proofs.Rounds.{Round, round-none, round-may, round-on, round-done, head-cell, head-queued, few-cells, Sizes, sizes, may-at, visited-at}
-use Rattle.join.proofs.Searching.{here-in}
+use Rattle.visits.proofs.Searching.{here-in}
 use Rattle.join.proofs.expand.expand.Statement.{statement}
 use Rattle.join.proofs.expand.expand.Tie as tie
 

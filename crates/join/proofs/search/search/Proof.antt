@@ -6,7 +6,7 @@ use lib.ListN.{length}
 use borrow.Author.Tests.{eqb-true, eqb-false}
 use Rattle.join.specs.Search.{Running}
 use Rattle.join.proofs.Directions.{directions}
-use Rattle.join.proofs.Searching.{here-in}
+use Rattle.visits.proofs.Searching.{here-in}
 use Rattle.join.proofs.Running.{running-none, queue-room, turning, running-on, ran, same-states, same-queue, same-ranks}
 use Rattle.join.proofs.search.search.Statement.{statement}
 use Rattle.join.proofs.search.search.Tie as tie

@@ -3,7 +3,7 @@ use Prim.Native.Nat.{_-_, _≤_}
 use mathlib.Core.Path.{_≡_}
 use native.Mathlib.Omega.{arith}
 use Rattle.seeds.specs.Sowing.{SownSo}
-use Rattle.seeds.proofs.Sowing.{of-place, long-states, long-queue, long-parents, long-ranks}
+use Rattle.seeds.proofs.Sowing.{in-list, few-resources, wide-enough, index-small, place-may, place-sown, long-states, long-queue, long-parents, long-ranks}
 use Rattle.seeds.proofs.sow.sow.Statement.{statement}
 use Rattle.seeds.proofs.sow.sow.Tie as tie
 
@@ -18,23 +18,44 @@ abbrev μ-loop : tie.MeasureT-loop
 loop-holds : tie.Need-loop-holds Inv-loop μ-loop
 loop-holds c = (omega arith, c .before .before .before .before .before .pre .places .rise, λ i l s. s)
 
-sow-one-requires : tie.Need-sow-one-requires Inv-loop μ-loop
-sow-one-requires c κs =
-    let p = c .before .before .before .before .before .before .before .before .before .before .before .pre in
-    let l = c .before .before .before .before .before .loop in
-    record { input = p .input; places = of-place (p .places) (l .inv .0) (c .before .before .before .before .loop-test .taken); sown = l .inv .2 (p .input) (p .places) (p .sown) }
+mul-index : tie.Need-mul-index Inv-loop μ-loop
+mul-index c = omega (arith, in-list (c .before .before .before .before .before .before .before .pre .places) (c .before .loop .inv .0) (c .loop-test .taken), c .before .before .before .before .before .before .before .good)
+
+shared-slice-read-index : tie.Need-shared-slice-read-index Inv-loop μ-loop
+shared-slice-read-index c = in-list (c .before .before .before .before .before .before .before .before .pre .places) (c .before .before .loop .inv .0) (c .before .loop-test .taken)
+
+add-plant : tie.Need-add-plant Inv-loop μ-loop
+add-plant c = omega (arith, few-resources (c .before .before .before .before .before .before .before .before .before .before .before .before .pre .places))
+
+mul-plant : tie.Need-mul-plant Inv-loop μ-loop
+mul-plant c = omega (arith, few-resources (c .before .before .before .before .before .before .before .before .before .before .before .before .pre .places))
+
+cast-plant : tie.Need-cast-plant Inv-loop μ-loop
+cast-plant c = omega (arith, few-resources (c .before .before .before .before .before .before .before .before .before .before .before .before .pre .places))
+
+cast-plant-2 : tie.Need-cast-plant-2 Inv-loop μ-loop
+cast-plant-2 c = omega (arith, index-small (c .before .before .before .before .before .before .before .before .before .before .before .before .pre .places) (c .before .before .before .before .before .before .loop .inv .0) (c .before .before .before .before .before .loop-test .taken))
+
+point-of-requires : tie.Need-point-of-requires Inv-loop μ-loop
+point-of-requires c κs = let w = wide-enough (c .before .before .before .before .before .before .before .before .before .before .before .before .pre .places) in (w .0, w .1, index-small (c .before .before .before .before .before .before .before .before .before .before .before .before .pre .places) (c .before .before .before .before .before .before .loop .inv .0) (c .before .before .before .before .before .loop-test .taken))
+
+plant-requires : tie.Need-plant-requires Inv-loop μ-loop
+plant-requires c κs =
+    let p = c .before .before .before .before .before .before .before .before .before .before .before .before .before .pre in
+    let l = c .before .before .before .before .before .before .before .loop in
+    place-may (p .places) (l .inv .0) (c .before .before .before .before .before .before .loop-test .taken) (l .inv .2 (p .input) (p .places) (p .sown)) (omega arith)
 
 add-k : tie.Need-add-k Inv-loop μ-loop
-add-k c = omega (arith, c .before .before .before .before .before .before .before .before .before .before .before .before .before .loop-test .taken)
+add-k c = omega (arith, c .before .before .before .before .before .before .before .before .before .before .before .before .before .before .before .loop-test .taken)
 
 loop-less : tie.Need-loop-less Inv-loop μ-loop
-loop-less c = omega (arith, c .before .before .before .before .before .before .before .before .before .before .before .before .before .loop-test .taken)
+loop-less c = omega (arith, c .before .before .before .before .before .before .before .before .before .before .before .before .before .before .before .loop-test .taken)
 
 loop-again : tie.Need-loop-again Inv-loop μ-loop
 loop-again c =
-    let l = c .before .before .before .before .before .before .before .before .before .before .before .before .before .before .loop in
-    let t = c .before .before .before .before .before .before .before .before .before .before .before .before .before .loop-test .taken in
-    (omega (arith, l .inv .0), omega (arith, t), λ i o s. c .before .before .before .before .before .before .before .before .sow-one .ensures i (of-place o (l .inv .0) t) (l .inv .2 i o s))
+    let l = c .before .before .before .before .before .before .before .before .before .before .before .before .before .before .before .before .loop in
+    let t = c .before .before .before .before .before .before .before .before .before .before .before .before .before .before .before .loop-test .taken in
+    (omega (arith, l .inv .0), omega (arith, t), λ i o s. place-sown o (l .inv .0) t (l .inv .2 i o s) (rw (c .before .before .before .before .before .before .before .before .before .point-of .ensures) at (c .before .before .before .before .before .before .before .before .plant .ensures)) (omega arith))
 
 same-length : tie.Need-same-length Inv-loop μ-loop
 same-length c = let p = c .before .before .before .before .before .before .before .pre in long-states (p .sown) (c .before .loop .inv .2 (p .input) (p .places) (p .sown))
@@ -61,7 +82,14 @@ sow-spec =
     Inv-loop
     μ-loop
     loop-holds
-    sow-one-requires
+    mul-index
+    shared-slice-read-index
+    add-plant
+    mul-plant
+    cast-plant
+    cast-plant-2
+    point-of-requires
+    plant-requires
     add-k
     loop-less
     loop-again

@@ -17,9 +17,9 @@ use Rattle.walkgraph.proofs.SearchEnd.{Adj, Near, adj-over, near-over}
 use Rattle.disjoint.specs.Forest.{of}
 use Rattle.labels.specs.Labels.{ownerOf, depthOf, Label, cellOf}
 use Rattle.labels.specs.Growth.{Met}
 use Rattle.visits.specs.Plants.{MayPlant, Planted, shut, labelled, met}
-use Rattle.join.specs.Search.{isLabel, stateOf, Walks, Seeds, Planting}
-use Rattle.join.proofs.Searching.{is-label, no-label, walks-on, walks-off, seeds-on}
+use Rattle.visits.specs.SearchState.{isLabel, stateOf, Walks, Seeds, Planting}
+use Rattle.visits.proofs.Searching.{is-label, no-label, walks-on, walks-off, seeds-on}
 
 module _ {width height : ℕ} {states queue parents ranks : List ℕ} {tail r index : ℕ} (P : Planting width height states queue parents ranks tail) (in-map : index < length states)
     (in-row : r < length parents) where

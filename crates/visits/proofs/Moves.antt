@@ -11,8 +11,8 @@ use Rattle.walkgraph.specs.Walk.{distance, Step, straight, diagonal}
 use Rattle.walkgraph.proofs.Tests.{by-cases, and-left, and-right, and-pair}
 use Rattle.walkgraph.proofs.SearchEnd.{Adj}
 use Rattle.disjoint.specs.Forest.{of}
 use Rattle.visits.specs.Visits.{opens}
-use Rattle.join.specs.Search.{Walks}
+use Rattle.visits.specs.SearchState.{Walks}
 
 -- a row b - 1 below, or above, row y
 pub row-moved : (w y b : ℕ) → 1 ≤ y + b → (y + b - 1) * w + w ≡ y * w + b * w

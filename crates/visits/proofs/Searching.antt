@@ -17,10 +17,10 @@ use Rattle.walkgraph.proofs.SearchEnd.{Adj, Near, near-step, near-linked, adj-o
 use Rattle.disjoint.specs.Forest.{of, Forest}
 use Rattle.labels.specs.Labels.{ownerOf, depthOf, Label}
 use Rattle.labels.specs.Growth.{Close, Met}
 use Rattle.visits.specs.Visits.{opens, MayVisit, Visited, shut, labelled, met}
-use Rattle.join.specs.Search.{isLabel, stateOf, Walks, Seeds, Links, Searching, Alike, Moved}
+use Rattle.visits.specs.SearchState.{isLabel, stateOf, Walks, Seeds, Links, Searching, Alike, Moved}
 use Rattle.labels.proofs.Growing.{grown-none, grown-more, same-self}
-use Rattle.join.proofs.Moves.{point-next, Inside, open-step}
+use Rattle.visits.proofs.Moves.{point-next, Inside, open-step}
 
 -- ---- labels
 pub label-low : (s : ℕ) → T (isLabel s) → 0 < s
