@@ -3,28 +3,28 @@ use mathlib.Core.Path.{_≡_, refl, sym, _∙_}
 use mathlib.Core.Logic.{_≢_, _⊎_, inl, inr, ⊎-elim}
 use mathlib.Core.Bool.{cond}
 use mathlib.Core.List.{List}
-use Prim.Native.Nat.{ℕ, suc, _≤_, _<_}
-use native.Mathlib.Decide.{ℕ-discrete}
-use native.Mathlib.Numerals.{add-one}
+use Prim.Native.Nat.{ℕ, suc, _+_, _-_, _≤_, _<_}
+use native.Mathlib.Decide.{decLe, ℕ-discrete}
 use native.Mathlib.Omega.{arith}
 use lib.Dec.{eqb}
 use lib.ListN.{length, set, length-set}
 use lib.Seq.{getD-set-same, getD-set-other}
-use borrow.Author.Tests.{eq-eqb, ne-eqb}
 use Rattle.walkgraph.proofs.Tests.{by-cases}
 use Rattle.walkgraph.proofs.DisjointSet.{Root, top, root-top, root-one, link-moved, link-kept, Same, same-back, same-chain}
 use Rattle.walkgraph.proofs.Ranks.{link-sized, link-ranked}
 use Rattle.disjoint.specs.Forest.{of, Forest, Found}
-use Rattle.unions.specs.Joining.{raisedRank, Roots, United}
+use Rattle.byrank.specs.Ranks.{lowerRoot, raisedRank}
+use Rattle.byrank.proofs.ByRank.{lower-left, lower-right, raised-same, raised-other}
+use Rattle.unions.specs.Joining.{United}
 
--- ---- ranks
-pub raised-same : (low high : ℕ) → low ≡ high → raisedRank low high ≡ suc high
-unfolding raisedRank
-raised-same low high e = rw (eq-eqb low high e) (add-one high)
-
-pub raised-other : (low high : ℕ) → low ≢ high → raisedRank low high ≡ high
-unfolding raisedRank
-raised-other low high n = rw (ne-eqb low high n)
+-- two different roots, the first of no greater rank
+pub record Roots (parents ranks : List ℕ) (low high : ℕ) : Type 0 where
+  pub low-in : low < length parents
+  pub high-in : high < length parents
+  pub low-root : of parents low ≡ low
+  pub high-root : of parents high ≡ high
+  pub apart : low ≢ high
+  pub rank : of ranks low ≤ of ranks high
 
 -- ---- one root is put under another
 module _ {p k : List ℕ} {low high : ℕ} (f : Forest p k) (r : Roots p k low high) where
@@ -89,7 +89,7 @@ module _ {p k : List ℕ} {low high : ℕ} (f : Forest p k) (r : Roots p k low h
       let same : f .root b ≡ f .root a = sym (root-one (as-before n y) (t .right)) ∙ root-one (as-before m x) (t .left) in
       inl (record { r = f .root a; left = x; right = rw same at y })))
 
-  pub linked-united : {q : ℕ} → q ≡ raisedRank (of k low) (of k high) → United p linked (set k high q) low high
+  linked-united : {q : ℕ} → q ≡ raisedRank (of k low) (of k high) → United p linked (set k high q) low high
   linked-united e =
       rw e
       (record {
@@ -107,7 +107,7 @@ module _ {p k : List ℕ} {low high : ℕ} (f : Forest p k) (r : Roots p k low h
       })
 
 -- ---- the other way round
-pub united-back : {p q k : List ℕ} {i j : ℕ} → United p q k i j → United p q k j i
+united-back : {p q k : List ℕ} {i j : ℕ} → United p q k i j → United p q k j i
 united-back u =
     record {
       size = u .size;
@@ -116,6 +116,9 @@ united-back u =
       keeps = u .keeps;
       only = λ a b h l t. ⊎-elim inl (λ s. inr (⊎-elim inr inl s)) (u .only a b h l t);
     }
+
+united-of : {p q k : List ℕ} {i j i′ j′ : ℕ} → i ≡ i′ → j ≡ j′ → United p q k i j → United p q k i′ j′
+united-of e f u = rw (e, f) at u
 
 -- ---- after two finds
 module _ {p p₁ p₂ k : List ℕ} {i j a b : ℕ} (f : Forest p k) (x : Found p p₁ k i a) (y : Found p₁ p₂ k j b) (in-i : i < length p) (in-j : j < length p) where
@@ -156,16 +159,16 @@ module _ {p p₁ p₂ k : List ℕ} {i j a b : ℕ} (f : Forest p k) (x : Found 
       }
 
   -- their roots, as a link wants them: the first of no greater rank
-  pub roots-apart : a ≢ b → of k a ≤ of k b → Roots p₂ k a b
+  roots-apart : a ≢ b → of k a ≤ of k b → Roots p₂ k a b
   roots-apart n h =
       record { low-in = left-in; high-in = right-in; low-root = root-top left-root; high-root = root-top right-root; apart = n; rank = h }
 
-  pub roots-turned : a ≢ b → of k b ≤ of k a → Roots p₂ k b a
+  roots-turned : a ≢ b → of k b ≤ of k a → Roots p₂ k b a
   roots-turned n h =
       record { low-in = right-in; high-in = left-in; low-root = root-top right-root; high-root = root-top left-root; apart = λ e. n (sym e); rank = h }
 
   -- their roots are in one class now, and so are they
-  pub roots-united : {p₃ k₃ : List ℕ} → United p₂ p₃ k₃ a b → United p p₃ k₃ i j
+  roots-united : {p₃ k₃ : List ℕ} → United p₂ p₃ k₃ a b → United p p₃ k₃ i j
   roots-united {p₃} {k₃} u =
       let of-i : Same (of p₂) i a = record { r = a; left = left-root; right = top (root-top left-root) } in
       let of-j : Same (of p₂) j b = record { r = b; left = right-root; right = top (root-top right-root) } in
@@ -184,3 +187,25 @@ module _ {p p₁ p₂ k : List ℕ} {i j a b : ℕ} (f : Forest p k) (x : Found 
             s))
             (u .only c d (omega (arith, size-both)) (omega (arith, size-both)) t);
       }
+
+  -- the root of lower rank goes under the other
+  module _ (n : a ≢ b) {l : ℕ} (e : l ≡ lowerRoot a b (of k a) (of k b)) where
+    abbrev h : ℕ
+    h = a + b - l
+
+    which : ((h ≡ b) × (l ≡ a) × (of k a ≤ of k b)) ⊎ ((h ≡ a) × (l ≡ b) × (of k b ≤ of k a))
+    which =
+        by-cases (decLe (suc (of k a)) (of k b))
+        (λ g. let t = e ∙ lower-left a b (of k a) (of k b) g in inl (omega arith, t, omega arith))
+        (λ g. let t = e ∙ lower-right a b (of k a) (of k b) (omega arith) in inr (omega arith, t, omega arith))
+
+    pub lower-roots : Roots p₂ k l h
+    lower-roots = ⊎-elim (λ w. rw (w .0, w .1) (roots-apart n (w .2))) (λ w. rw (w .0, w .1) (roots-turned n (w .2))) which
+
+    pub lower-least : l ≤ a + b
+    lower-least = ⊎-elim (λ w. omega (arith, w .1)) (λ w. omega (arith, w .1)) which
+
+    pub lower-united : {q : ℕ} → q ≡ raisedRank (of k l) (of k h) → United p (set p₂ l h) (set k h q) i j
+    lower-united r =
+        let u = linked-united (y .forest) lower-roots r in
+        ⊎-elim (λ w. roots-united (united-of (w .1) (w .0) u)) (λ w. roots-united (united-back (united-of (w .1) (w .0) u))) which

@@ -1,29 +1,12 @@
 // Joining classes, by rank.
+use byrank;
 use disjoint::find;
-ghost use mathlib.Core.Path.{_≡_};
-ghost use Prim.Native.Nat.{_≤_, _<_};
+ghost use Prim.Native.Nat.{_<_};
 ghost use lib.ListN.{length};
 ghost use Rattle.disjoint.specs.Forest.{Forest};
-ghost use Rattle.unions.specs.Joining.{raisedRank, Roots, United};
+ghost use Rattle.unions.specs.Joining.{United};
 
-// The rank of a root after another root, of rank low, is put under it.
-pub fn raised(low: u8, high: u8) -> u8
-    requires { ⌜ high ≤ 9 ⌝ }
-    ensures { λ r. ⌜ r ≡ raisedRank low high ⌝ }
-{
-    if low == high { high + 1 } else { high }
-}
-
-// Puts the class of root low under root high, whose rank is not less.
-pub fn link(parents: &mut [u16], ranks: &mut [u8], low: usize, high: usize)
-    requires { ⌜ Forest (now parents) (now ranks) × Roots (now parents) (now ranks) low high ⌝ }
-    ensures { λ _. ⌜ United (now (parents .entry)) (now (parents .exit)) (now (ranks .exit)) low high ⌝ }
-{
-    parents[low] = high as u16;
-    ranks[high] = raised(ranks[low], ranks[high]);
-}
-
-// Joins the classes of two members.
+// Joins the classes of two members: the root of lower rank goes under the other.
 pub fn union(parents: &mut [u16], ranks: &mut [u8], left: usize, right: usize)
     requires { ⌜ Forest (now parents) (now ranks) × (left < length (now parents)) × (right < length (now parents)) ⌝ }
     ensures { λ _. ⌜ United (now (parents .entry)) (now (parents .exit)) (now (ranks .exit)) left right ⌝ }
@@ -33,9 +16,8 @@ pub fn union(parents: &mut [u16], ranks: &mut [u8], left: usize, right: usize)
     if a == b {
         return;
     }
-    if ranks[a] < ranks[b] {
-        link(parents, ranks, a, b);
-        return;
-    }
-    link(parents, ranks, b, a);
+    let low = byrank::lower(a, b, ranks[a], ranks[b]);
+    let high = a + b - low;
+    parents[low] = high as u16;
+    ranks[high] = byrank::raised(ranks[low], ranks[high]);
 }

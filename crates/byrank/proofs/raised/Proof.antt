@@ -1,12 +1,11 @@
--- `unions::union::raised`: one more where the ranks are equal.
-use borrow.Author.Needs.{needs}
+-- `byrank::raised`: one more where the ranks are equal.
 use native.Mathlib.Omega.{arith}
-use Rattle.unions.proofs.Joining.{raised-same, raised-other}
-use Rattle.unions.proofs.union.raised.Statement.{statement}
-use Rattle.unions.proofs.union.raised.Tie as tie
+use Rattle.byrank.proofs.ByRank.{raised-same, raised-other}
+use Rattle.byrank.proofs.raised.Statement.{statement}
+use Rattle.byrank.proofs.raised.Tie as tie
 
 add-result : tie.Need-add-result
-add-result c = search needs
+add-result c = omega (arith, c .before .pre)
 
 returns : tie.Need-returns
 returns c = let a = c .before .args in rw (raised-same (a .low) (a .high) (omega arith)) (omega arith)
