@@ -14,7 +14,7 @@ use Rattle.walkgraph.proofs.LinkSearch.{joined-by}
 use Rattle.walkgraph.proofs.DisjointSet.{Same, same-back, same-chain}
 use Rattle.walkgraph.proofs.SearchEnd.{linked-over}
 use Rattle.disjoint.specs.Forest.{of}
-use Rattle.labels.specs.Labels.{ownerOf}
+use Rattle.cellstate.specs.Labels.{ownerOf}
 use Rattle.visits.specs.SearchState.{Seeds, Links}
 use Rattle.join.specs.Search.{Seeded, Ran}
 use Rattle.join.proofs.Running.{same-any, ran-joins}

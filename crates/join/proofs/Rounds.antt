@@ -19,10 +19,12 @@ use Rattle.walkgraph.proofs.DisjointSet.{Same}
 use Rattle.walkgraph.proofs.SearchTurns.{next-turn, queue-in}
 use Rattle.walkgraph.proofs.SearchEnd.{Adj}
 use Rattle.disjoint.specs.Forest.{of}
-use Rattle.labels.specs.Labels.{ownerOf, depthOf, cellOf}
+use Rattle.cellstate.specs.Labels.{ownerOf, depthOf, cellOf}
 use Rattle.labels.specs.Growth.{Grown}
-use Rattle.picks.specs.Picks.{within, isInside, highest}
-use Rattle.visits.specs.Visits.{opens, MoveFits, MayVisit, Visited}
+use Rattle.cellstate.specs.Looks.{highest}
+use Rattle.picks.specs.Picks.{within, isInside}
+use Rattle.cellstate.specs.Looks.{opens}
+use Rattle.visits.specs.Visits.{MoveFits, MayVisit, Visited}
 use Rattle.picks.specs.Listed.{Table, OnMap, Listed}
 use Rattle.visits.specs.SearchState.{isLabel, Walks, Links, Searching, Alike, Moved}
 use Rattle.join.specs.Search.{Turning, Expanded}

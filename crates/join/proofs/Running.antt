@@ -14,7 +14,7 @@ use Rattle.walkgraph.proofs.DisjointSet.{Root, top, up, Same, same-back, same-c
 use Rattle.walkgraph.proofs.SearchTurns.{queue-in}
 use Rattle.walkgraph.proofs.SearchEnd.{joined}
 use Rattle.disjoint.specs.Forest.{of, Forest}
-use Rattle.labels.specs.Labels.{depthOf, cellOf}
+use Rattle.cellstate.specs.Labels.{depthOf, cellOf}
 use Rattle.picks.specs.Listed.{Table}
 use Rattle.visits.specs.SearchState.{isLabel, Walks, Seeds, Links}
 use Rattle.join.specs.Search.{Turning, Expanded, Seeded, Running, Ran}

@@ -4,7 +4,7 @@ use mathlib.Core.List.{List}
 use Prim.Native.Nat.{ℕ, suc, _<_}
 use lib.ListN.{length}
 use Rattle.disjoint.specs.Forest.{of, Forest}
-use Rattle.labels.specs.Labels.{depthOf, cellOf}
+use Rattle.cellstate.specs.Labels.{depthOf, cellOf}
 use Rattle.labels.specs.Growth.{Grown}
 use Rattle.visits.specs.SearchState.{Links, Searching, Alike}
 use Rattle.picks.specs.Listed.{Table}

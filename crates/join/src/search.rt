@@ -1,6 +1,6 @@
 // The search from all access cells at once, by one queue, to depth 16.
 use crate::expand;
-use labels::deepest;
+use cellstate;
 ghost use Rattle.join.specs.Search.{Seeded, Ran};
 
 // Labels cells to depth 16 from the labelled access cells, and joins labels that meet: takes cells from the queue until none is left or the next has depth 16. Each step from such a cell to a shallower
@@ -33,7 +33,7 @@ pub fn search(
     let mut tail = seeds;
     let mut head: usize = 0;
     while head < tail {
-        if deepest::deepest(states, width, queue[head]) {
+        if cellstate::deepest(states, width, queue[head]) {
             return;
         }
         tail = expand::expand(

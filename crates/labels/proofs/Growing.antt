@@ -12,7 +12,7 @@ use Rattle.walkgraph.proofs.LinkSearch.{joined-by}
 use Rattle.walkgraph.proofs.DisjointSet.{Root, up, Same}
 use Rattle.disjoint.specs.Forest.{of, Forest}
 use Rattle.unions.specs.Joining.{United}
-use Rattle.labels.specs.Labels.{ownerOf, depthOf, Label}
+use Rattle.cellstate.specs.Labels.{ownerOf, depthOf, Label}
 use Rattle.labels.specs.Growth.{Chained, Grown, Met}
 
 pub grown-none : {Link : ℕ → ℕ → Type 0} {p k : List ℕ} → Forest p k → Grown Link p p k

@@ -7,7 +7,7 @@ use lib.ListN.{length}
 use Rattle.walkgraph.specs.Links.{Joined}
 use Rattle.walkgraph.proofs.DisjointSet.{Same}
 use Rattle.disjoint.specs.Forest.{of, Forest}
-use Rattle.labels.specs.Labels.{ownerOf, depthOf}
+use Rattle.cellstate.specs.Labels.{ownerOf, depthOf}
 
 -- two members that were in one class, or that are linked
 abbrev pub Chained : List ℕ → (ℕ → ℕ → Type 0) → ℕ → ℕ → Type 0

@@ -1,3 +1,2 @@
--- What the contracts of this crate speak of: a cell's state, and how the classes grow.
-pub mod Labels
+-- What the contracts of this crate speak of: how the classes grow.
 pub mod Growth

@@ -1,3 +1,2 @@
-// A cell's label: a resource and a depth. Two labels that meet, and the deepest one.
-pub mod deepest;
+// Two labels that meet.
 pub mod meet;

@@ -3,7 +3,7 @@ use unions::union;
 ghost use mathlib.Core.Path.{_≡_};
 ghost use lib.ListN.{length};
 ghost use Rattle.disjoint.specs.Forest.{Forest};
-ghost use Rattle.labels.specs.Labels.{Label};
+ghost use Rattle.cellstate.specs.Labels.{Label};
 ghost use Rattle.labels.specs.Growth.{Met};
 
 // Joins the resources of two labels where the two depths and the step come to at most 32. Equal parents are one class: most labels that meet are joined already.

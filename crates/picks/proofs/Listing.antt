@@ -10,7 +10,8 @@ use lib.ListN.{length}
 use Rattle.walkgraph.proofs.Tests.{and-left, and-right, and-pair}
 use Rattle.walkgraph.proofs.Places.{flat-lt}
 use Rattle.disjoint.specs.Forest.{of}
-use Rattle.picks.specs.Picks.{inner, within, highest, isNear, isInside, Picked, Around, Edge}
+use Rattle.cellstate.specs.Looks.{highest}
+use Rattle.picks.specs.Picks.{inner, within, isNear, isInside, Picked, Around, Edge}
 use Rattle.picks.specs.Listed.{OnMap, Table, Listed}
 
 inner-low : (a size : ℕ) → T (inner a size) → 0 < a

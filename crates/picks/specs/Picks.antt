@@ -2,8 +2,8 @@
 use mathlib.Core.Path.{_≡_}
 use mathlib.Core.Bool.{Bool, true, false, cond, _&&_}
 use mathlib.Core.List.{List}
-use Prim.Native.Nat.{ℕ, _+_, _*_, _-_, _/_, _%_, _≤_, _<_}
-use lib.Dec.{T, ltb, leb, eqb}
+use Prim.Native.Nat.{ℕ, _+_, _-_, _≤_, _<_}
+use lib.Dec.{T, ltb, leb}
 use lib.ListN.{getD, length, set}
 
 -- 1 where a test passes
@@ -17,10 +17,6 @@ within place size = leb 1 place && leb place size
 -- a column or a row, counted from 0, has one on each side
 unfoldable pub inner : ℕ → ℕ → Bool
 inner place size = ltb 0 place && ltb (place + 1) size
-
--- the highest state that a cell does not look at
-unfoldable pub highest : ℕ → ℕ
-highest state = cond (eqb (state % 32) 15) 0 (state / 32 * 32 + 31)
 
 -- the first `count` entries of a list of nine places are the numbers below m that pass the test
 pub record Picked (test : ℕ → Bool) (m : ℕ) (list : List ℕ) (count : ℕ) : Type 0 where

@@ -1,5 +1,6 @@
 // The moves that a cell makes, listed.
 use crate::pick;
+use cellstate;
 ghost use mathlib.Core.Path.{_≡_};
 ghost use mathlib.Core.Bool.{_&&_};
 ghost use Prim.Native.Nat.{_≤_, _<_};
@@ -53,7 +54,7 @@ pub fn listed(
         width,
         y * width + x,
         steps,
-        pick::highest(state),
+        cellstate::highest(state),
         list,
     )
 }

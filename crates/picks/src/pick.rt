@@ -3,7 +3,7 @@ ghost use mathlib.Core.Path.{_≡_};
 ghost use Prim.Native.Nat.{_+_, _≤_, _<_};
 ghost use lib.Dec.{ltb};
 ghost use lib.ListN.{length};
-ghost use Rattle.picks.specs.Picks.{one, highest, within, Picked, Kept, isNear, isInside, Around, Edge};
+ghost use Rattle.picks.specs.Picks.{one, within, Picked, Kept, isNear, isInside, Around, Edge};
 
 // 1 where a column or a row, counted from 1, is in the map, else 0.
 pub fn within(place: usize, size: usize) -> usize
@@ -13,16 +13,6 @@ pub fn within(place: usize, size: usize) -> usize
         return 0;
     }
     if place > size { 0 } else { 1 }
-}
-
-// The highest state that a cell does not look at: labels below its own and its own. At depth 15 it looks at every walkable neighbour.
-pub fn highest(state: u16) -> u16
-    ensures { λ r. ⌜ r ≡ highest state ⌝ }
-{
-    if state % 32 == 15 {
-        return 0;
-    }
-    state / 32 * 32 + 31
 }
 
 // The list with move k at its end, where it is picked; answers how many moves are listed then.

@@ -16,7 +16,7 @@ use Rattle.walkgraph.proofs.Places.{flat-lt}
 use Rattle.walkgraph.proofs.Tally.{tally-sum}
 use Rattle.walkgraph.proofs.DisjointSet.{Same, root-self}
 use Rattle.disjoint.specs.Forest.{of, Begun}
-use Rattle.labels.specs.Labels.{depthOf}
+use Rattle.cellstate.specs.Labels.{depthOf}
 use Rattle.visits.specs.SearchState.{isLabel, Walks, Seeds, Planting}
 use Rattle.visits.proofs.Searching.{label-low, label-high}
 use Rattle.seeds.specs.Sown.{Sowable}

@@ -16,7 +16,7 @@ use Rattle.walkgraph.proofs.Tests.{by-cases}
 use Rattle.walkgraph.proofs.LinkSearch.{joined-by}
 use Rattle.walkgraph.proofs.DisjointSet.{Same}
 use Rattle.disjoint.specs.Forest.{of}
-use Rattle.labels.specs.Labels.{ownerOf, depthOf, cellOf}
+use Rattle.cellstate.specs.Labels.{ownerOf, depthOf, cellOf}
 use Rattle.labels.specs.Growth.{Chained, Close, Met}
 use Rattle.visits.specs.Plants.{MayPlant, Planted, shut, labelled, met}
 use Rattle.visits.specs.SearchState.{Walks, Seeds, Planting}

@@ -8,7 +8,7 @@ use Rattle.walkgraph.specs.Links.{Joined}
 use Rattle.walkgraph.specs.FieldsPromise.{JoinInput, startOf, WalkableOn, Access, LinkedBy}
 use Rattle.walkgraph.proofs.DisjointSet.{Same}
 use Rattle.disjoint.specs.Forest.{of}
-use Rattle.labels.specs.Labels.{ownerOf, depthOf}
+use Rattle.cellstate.specs.Labels.{ownerOf, depthOf}
 use Rattle.visits.specs.SearchState.{Walks, Seeds, Planting}
 use Rattle.seeds.specs.Sown.{Sowable}
 

@@ -11,7 +11,7 @@ use Rattle.walkgraph.specs.Walk.{distance, Step, straight, diagonal}
 use Rattle.walkgraph.proofs.Tests.{by-cases, and-left, and-right, and-pair}
 use Rattle.walkgraph.proofs.SearchEnd.{Adj}
 use Rattle.disjoint.specs.Forest.{of}
-use Rattle.visits.specs.Visits.{opens}
+use Rattle.cellstate.specs.Looks.{opens}
 use Rattle.visits.specs.SearchState.{Walks}
 
 -- a row b - 1 below, or above, row y

@@ -15,7 +15,7 @@ use Rattle.walkgraph.proofs.DisjointSet.{Same}
 use Rattle.walkgraph.proofs.SearchTurns.{Turn, Push, push-room, seed-turn, join-turn, turn-over}
 use Rattle.walkgraph.proofs.SearchEnd.{Adj, Near, adj-over, near-over}
 use Rattle.disjoint.specs.Forest.{of}
-use Rattle.labels.specs.Labels.{ownerOf, depthOf, Label, cellOf}
+use Rattle.cellstate.specs.Labels.{ownerOf, depthOf, Label, cellOf}
 use Rattle.labels.specs.Growth.{Met}
 use Rattle.visits.specs.Plants.{MayPlant, Planted, shut, labelled, met}
 use Rattle.visits.specs.SearchState.{isLabel, stateOf, Walks, Seeds, Planting}

@@ -15,9 +15,10 @@ use Rattle.walkgraph.proofs.DisjointSet.{Same}
 use Rattle.walkgraph.proofs.SearchTurns.{Turn, Push, push-room, step-turn, join-turn, turn-over}
 use Rattle.walkgraph.proofs.SearchEnd.{Adj, Near, near-step, near-linked, adj-over, near-over, linked-over}
 use Rattle.disjoint.specs.Forest.{of, Forest}
-use Rattle.labels.specs.Labels.{ownerOf, depthOf, Label}
+use Rattle.cellstate.specs.Labels.{ownerOf, depthOf, Label}
 use Rattle.labels.specs.Growth.{Close, Met}
-use Rattle.visits.specs.Visits.{opens, MayVisit, Visited, shut, labelled, met}
+use Rattle.cellstate.specs.Looks.{opens}
+use Rattle.visits.specs.Visits.{MayVisit, Visited, shut, labelled, met}
 use Rattle.visits.specs.SearchState.{isLabel, stateOf, Walks, Seeds, Links, Searching, Alike, Moved}
 use Rattle.labels.proofs.Growing.{grown-none, grown-more, same-self}
 use Rattle.visits.proofs.Moves.{point-next, Inside, open-step}

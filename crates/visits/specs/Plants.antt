@@ -5,7 +5,7 @@ use mathlib.Core.List.{List}
 use Prim.Native.Nat.{ℕ, _+_, _<_}
 use lib.ListN.{length, set}
 use Rattle.disjoint.specs.Forest.{of, Forest}
-use Rattle.labels.specs.Labels.{Label}
+use Rattle.cellstate.specs.Labels.{Label}
 use Rattle.labels.specs.Growth.{Met}
 
 -- the cell is in the map, the queue has room for a cell that is labelled, and a label met is one of a resource

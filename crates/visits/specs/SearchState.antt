@@ -10,7 +10,7 @@ use Rattle.walkgraph.proofs.DisjointSet.{Same}
 use Rattle.walkgraph.proofs.SearchTurns.{State, Turn}
 use Rattle.walkgraph.proofs.SearchEnd.{Adj, Near}
 use Rattle.disjoint.specs.Forest.{of, Forest}
-use Rattle.labels.specs.Labels.{ownerOf, depthOf, Label, cellOf}
+use Rattle.cellstate.specs.Labels.{ownerOf, depthOf, Label, cellOf}
 use Rattle.labels.specs.Growth.{Grown}
 
 -- the cell is labelled

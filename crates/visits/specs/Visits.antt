@@ -1,18 +1,15 @@
 -- What one move from a cell does.
 use mathlib.Core.Path.{_≡_}
 use mathlib.Core.Logic.{_≢_}
-use mathlib.Core.Bool.{Bool, not, _&&_}
+use mathlib.Core.Bool.{not}
 use mathlib.Core.List.{List}
 use Prim.Native.Nat.{ℕ, _+_, _*_, _≤_, _<_}
-use lib.Dec.{T, ltb}
+use lib.Dec.{T}
 use lib.ListN.{length, set}
 use Rattle.disjoint.specs.Forest.{of, Forest}
-use Rattle.labels.specs.Labels.{Label, depthOf}
+use Rattle.cellstate.specs.Labels.{Label, depthOf}
+use Rattle.cellstate.specs.Looks.{opens}
 use Rattle.labels.specs.Growth.{Met}
-
--- "both ends walkable; a diagonal step also needs both cells that share a side with both ends to be walkable"
-unfoldable pub opens : List ℕ → ℕ → ℕ → ℕ → Bool
-opens states next first second = ltb 0 (of states next) && (ltb 0 (of states first) && ltb 0 (of states second))
 
 -- the numbers of a move by over - 1 columns and down - 1 rows: none is too large, and no difference stops at 0
 pub record MoveFits (index next point over down : ℕ) : Type 0 where

@@ -1,23 +1,8 @@
 // One move from a cell: it is shut, labels the next cell, or meets its label.
+use cellstate;
 use labels::meet;
-ghost use mathlib.Core.Path.{_≡_};
-ghost use lib.ListN.{length};
-ghost use Prim.Native.Nat.{_+_, _*_, _-_, _<_};
-ghost use Rattle.visits.specs.Visits.{opens, MoveFits, MayVisit, Visited};
-
-// The next cell and the two that share a side with both ends are walkable. Of a straight move those are the two ends.
-pub fn open(states: &[u16], next: usize, first: usize, second: usize) -> bool
-    requires { ⌜ (next < length (now states)) × (first < length (now states)) × (second < length (now states)) ⌝ }
-    ensures { λ r. ⌜ r ≡ opens (now (states .entry)) next first second ⌝ }
-{
-    if states[next] == 0 {
-        return false;
-    }
-    if states[first] == 0 {
-        return false;
-    }
-    states[second] > 0
-}
+ghost use Prim.Native.Nat.{_+_, _*_, _-_};
+ghost use Rattle.visits.specs.Visits.{MoveFits, MayVisit, Visited};
 
 // Makes the move by over - 1 columns and down - 1 rows from the cell at a point: labels the next cell one deeper and puts it into the queue, or meets the label that it has; answers how many entries
 // the queue has then.
@@ -39,7 +24,7 @@ pub fn visit(
         state next (point + (down * 1024 + over) - 1025) (next + 1 - over) (index + over - 1)
         (now (states .exit)) (now (queue .exit)) (now (parents .exit)) (now (ranks .exit)) r ⌝ }
 {
-    if !open(states, next, next + 1 - over, index + over - 1) {
+    if !cellstate::open(states, next, next + 1 - over, index + over - 1) {
         return tail;
     }
     if states[next] != 65535 {

@@ -1,6 +1,6 @@
 -- `picks::list::listed`: at the edge, or away from it.
 use native.Mathlib.Omega.{arith}
-use Rattle.labels.proofs.Answers.{is-open}
+use Rattle.cellstate.proofs.Answers.{is-open}
 use Rattle.picks.proofs.Listing.{at-edge, around, flat-in, listed-edge, listed-near}
 use borrow.Author.Needs.{needs}
 use Rattle.picks.proofs.list.listed.Statement.{statement}

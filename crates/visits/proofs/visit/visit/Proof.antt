@@ -3,7 +3,7 @@ use Prim.Native.Nat.{_<_}
 use native.Mathlib.Omega.{arith}
 use lib.ListN.{length}
 use Rattle.visits.specs.Visits.{shut, labelled, met}
-use Rattle.labels.proofs.Answers.{is-shut, is-open}
+use Rattle.cellstate.proofs.Answers.{is-shut, is-open}
 use borrow.Author.Needs.{needs}
 use Rattle.visits.proofs.visit.visit.Statement.{statement}
 use Rattle.visits.proofs.visit.visit.Tie as tie

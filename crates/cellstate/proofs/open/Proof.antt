@@ -1,11 +1,11 @@
--- `visits::visit::open`: test after test.
+-- `cellstate::open`: test after test.
 use native.Mathlib.Omega.{arith}
 use borrow.Author.Tests.{lt-ltb, le-ltb}
 use Rattle.disjoint.specs.Forest.{of}
-use Rattle.visits.specs.Visits.{opens}
+use Rattle.cellstate.specs.Looks.{opens}
 use borrow.Author.Needs.{needs}
-use Rattle.visits.proofs.visit.open.Statement.{statement}
-use Rattle.visits.proofs.visit.open.Tie as tie
+use Rattle.cellstate.proofs.open.Statement.{statement}
+use Rattle.cellstate.proofs.open.Tie as tie
 
 mul-if1 : tie.Need-mul-if1
 mul-if1 c = search needs

@@ -1,11 +1,11 @@
--- `picks::pick::highest`: by the depth.
+-- `cellstate::highest`: by the depth.
 use native.Mathlib.Omega.{arith}
 use Prim.Native.Nat.{_%_}
 use borrow.Author.Tests.{eq-eqb, ne-eqb}
-use Rattle.picks.specs.Picks.{highest}
+use Rattle.cellstate.specs.Looks.{highest}
 use borrow.Author.Needs.{needs}
-use Rattle.picks.proofs.pick.highest.Statement.{statement}
-use Rattle.picks.proofs.pick.highest.Tie as tie
+use Rattle.cellstate.proofs.highest.Statement.{statement}
+use Rattle.cellstate.proofs.highest.Tie as tie
 
 returns : tie.Need-returns
 unfolding highest

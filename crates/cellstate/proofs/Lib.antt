@@ -1,0 +1,2 @@
+-- The laws that the proofs of the crates above cite.
+pub mod Answers
