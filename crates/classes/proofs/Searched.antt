@@ -18,13 +18,20 @@ use Rattle.cellstate.specs.Labels.{ownerOf}
 use Rattle.visits.specs.SearchState.{Seeds, Links}
 use Rattle.join.specs.Search.{Seeded, Ran}
 use Rattle.join.proofs.Running.{same-any, ran-joins}
-use Rattle.numbering.specs.Fields.{FieldNumbers}
+use Rattle.numbering.specs.Fields.{Rooted, FieldNumbers}
 use Rattle.numbering.proofs.Giving.{fields-numbered}
 use Rattle.seeds.specs.Sown.{Sown}
 use Rattle.roots.specs.Roots.{AtRoots}
 use Rattle.roots.proofs.Rooting.{root-same, same-root}
 use Rattle.zeros.specs.Zeros.{Cleared}
-use Rattle.classes.specs.Classes.{Classes, FieldsFound}
+use Rattle.classes.specs.Classes.{FieldsFound}
+
+-- "Fields are the classes under chains of links": each resource's parent is a root, the same for two exactly where a chain of links joins them
+pub record Classes (i : JoinInput) (parents : List ℕ) : Type 0 where
+  pub size : length parents ≡ length (i .ends)
+  pub rooted : Rooted parents
+  pub joins : (r s : ℕ) → r < length parents → s < length parents → of parents r ≡ of parents s → Joined (LinkedBy i) r s
+  pub only : (r s : ℕ) → r < length parents → s < length parents → Joined (LinkedBy i) r s → of parents r ≡ of parents s
 
 -- what has an access cell is a resource
 access-in : (i : JoinInput) {r x y : ℕ} → Access i r x y → r < length (i .ends)

@@ -1,2 +1,2 @@
--- Parents whose classes are the fields, and the fields found.
+-- What the contracts of this crate speak of: the fields found.
 pub mod Classes
