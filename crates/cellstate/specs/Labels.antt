@@ -1,5 +1,4 @@
 -- A cell's state: 0 where it is unwalkable, 65,535 where it is walkable and not labelled, else 32 times the resource's number from 1, plus the depth.
-use mathlib.Core.Path.{_≡_}
 use Prim.Native.Nat.{ℕ, _+_, _*_, _-_, _/_, _%_, _≤_}
 
 -- the resource of a label, from 0

@@ -1,5 +1,6 @@
 // The numbers of the fields from the disjoint set of resources, and the buffers that end as 0.
-use numbering::number;
+pub mod number;
+
 use roots;
 use zeros;
 ghost use mathlib.Core.Path.{_≡_};

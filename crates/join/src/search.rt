@@ -3,8 +3,8 @@ use crate::expand;
 use cellstate;
 ghost use Rattle.join.specs.Search.{Seeded, Ran};
 
-// Labels cells to depth 16 from the labelled access cells, and joins labels that meet: takes cells from the queue until none is left or the next has depth 16. Each step from such a cell to a shallower
-// one has been looked at from there. The eight directions are a table, made once.
+// Labels cells to depth 16 from the labelled access cells, and joins labels that meet: takes cells from the queue until none is left or the next has depth 16.
+// Each step from such a cell to a shallower one has been looked at from there. The eight directions are a table, made once.
 pub fn search(
     states: &mut [u16],
     queue: &mut [u32],

@@ -1,6 +1,5 @@
 // Two labels at the ends of a step.
 use unions::union;
-ghost use mathlib.Core.Path.{_≡_};
 ghost use lib.ListN.{length};
 ghost use Rattle.disjoint.specs.Forest.{Forest};
 ghost use Rattle.cellstate.specs.Labels.{Label};

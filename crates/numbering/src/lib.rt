@@ -1,2 +1,2 @@
-// The numbers of the fields, from the roots of the resources.
-pub mod number;
+// The numbers of the fields, from the roots of the resources: one resource after another.
+pub mod give;

@@ -3,7 +3,7 @@ use crate::pick;
 use cellstate;
 ghost use mathlib.Core.Path.{_≡_};
 ghost use mathlib.Core.Bool.{_&&_};
-ghost use Prim.Native.Nat.{_≤_, _<_};
+ghost use Prim.Native.Nat.{_<_};
 ghost use lib.ListN.{length};
 ghost use Rattle.picks.specs.Picks.{inner};
 ghost use Rattle.picks.specs.Listed.{OnMap, Table, Listed};

@@ -1,7 +1,6 @@
 // Which of the eight moves from a cell need a look. Each move has its number, 0 to 7.
 ghost use mathlib.Core.Path.{_≡_};
-ghost use Prim.Native.Nat.{_+_, _≤_, _<_};
-ghost use lib.Dec.{ltb};
+ghost use Prim.Native.Nat.{_<_};
 ghost use lib.ListN.{length};
 ghost use Rattle.picks.specs.Picks.{one, within, Picked, Kept, isNear, isInside, Around, Edge};
 

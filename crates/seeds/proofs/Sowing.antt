@@ -23,8 +23,9 @@ use Rattle.visits.specs.SearchState.{Walks, Seeds, Planting}
 use Rattle.labels.proofs.Growing.{same-self}
 use Rattle.visits.proofs.Searching.{is-label, at-new, at-old, walks-on, walks-off}
 use Rattle.visits.proofs.Planting.{may-plant, plant-planted}
+use Rattle.accesslabel.specs.AccessLabel.{labelOf, pointOf}
 use Rattle.seeds.specs.Sown.{Sowable, Sown}
-use Rattle.seeds.specs.Sowing.{pointOf, Done, SownTo, OfList, MaySeed}
+use Rattle.seeds.specs.Sowing.{Done, SownTo, OfList, MaySeed}
 
 -- ---- the point of an index
 pub point-column : (width index : ℕ) → 1 ≤ width → width ≤ 1024 → pointOf width index % 1024 ≡ index % width
@@ -52,7 +53,7 @@ module _ {i : JoinInput} {r k : ℕ} {states queue parents ranks : List ℕ} {ta
   index = getD (i .indices) k 0
 
   abbrev label : ℕ
-  label = 32 * (r + 1)
+  label = labelOf r
 
   pub in-cells : index < height * width
   in-cells = S .cell k (omega (arith, S .high r in-ends))
@@ -240,11 +241,11 @@ module _ {i : JoinInput} {width : ℕ} {indices : List ℕ} {r from to : ℕ} (L
     index-small = let s = L .sowable in rw (← (L .list)) (omega (arith, s .cell k in-lists, mul-le-mul (s .tall .1) (s .wide .1)))
 
     module _ {states queue parents ranks : List ℕ} {tail : ℕ} (B : SownTo i r k states queue parents ranks tail) where
-      pub place-may : {label : ℕ} → label ≡ 32 * (r + 1) → MayPlant states queue parents ranks tail label (getD indices k 0)
+      pub place-may : {label : ℕ} → label ≡ labelOf r → MayPlant states queue parents ranks tail label (getD indices k 0)
       place-may e = rw (e, ← (L .list)) (sow-may (L .sowable) B (L .resource) (omega (arith, L .low)) (omega (arith, L .high)))
 
       pub place-sown : {label : ℕ} {states′ queue′ parents′ ranks′ : List ℕ} {tail′ : ℕ} →
-          Planted states queue parents ranks tail label (getD indices k 0) (pointOf width (getD indices k 0)) states′ queue′ parents′ ranks′ tail′ → label ≡ 32 * (r + 1) →
+          Planted states queue parents ranks tail label (getD indices k 0) (pointOf width (getD indices k 0)) states′ queue′ parents′ ranks′ tail′ → label ≡ labelOf r →
           SownTo i r (k + 1) states′ queue′ parents′ ranks′ tail′
       place-sown p e = sown-more (L .sowable) B (L .resource) (omega (arith, L .low)) (omega (arith, L .high)) (rw (e, ← (L .wide), ← (L .list)) at p)
 

@@ -2,7 +2,7 @@
 use mathlib.Core.Path.{_≡_}
 use mathlib.Core.Logic.{_⊎_}
 use mathlib.Core.List.{List}
-use Prim.Native.Nat.{ℕ, _+_, _*_, _/_, _%_, _≤_, _<_}
+use Prim.Native.Nat.{ℕ, _+_, _*_, _≤_, _<_}
 use lib.ListN.{getD, length}
 use Rattle.walkgraph.specs.Links.{Joined}
 use Rattle.walkgraph.specs.FieldsPromise.{JoinInput, startOf, WalkableOn, Access, LinkedBy}
@@ -16,10 +16,6 @@ use Rattle.seeds.specs.Sown.{Sowable}
 pub record Grounded (cells before states : List ℕ) : Type 0 where
   pub size : length states ≡ length before
   pub entry : (k : ℕ) → k < length states → of states k ≡ of cells k * 65535
-
--- the point of the cell at an index: 1,024 times the row, plus the column
-abbrev pub pointOf : ℕ → ℕ → ℕ
-pointOf width index = index / width * 1024 + index % width
 
 -- the place of an access cell of resource s is done, where the lists before r are, and of the list r the places before `place`
 abbrev pub Done : ℕ → ℕ → ℕ → ℕ → Type 0

@@ -1,16 +1,7 @@
 // The access cells of one resource.
+use accesslabel;
 use visits::plant;
-ghost use mathlib.Core.Path.{_≡_};
-ghost use Prim.Native.Nat.{_≤_, _<_};
-ghost use Rattle.seeds.specs.Sowing.{pointOf, MaySow, Sows};
-
-// The point of the cell at an index: 1,024 times the row, plus the column.
-pub fn point_of(index: u32, width: u32) -> u32
-    requires { ⌜ (1 ≤ width) × (width ≤ 1024) × (index < 1048576) ⌝ }
-    ensures { λ r. ⌜ r ≡ pointOf width index ⌝ }
-{
-    index / width * 1024 + index % width
-}
+ghost use Rattle.seeds.specs.Sowing.{MaySow, Sows};
 
 // Labels the access cells of resource r, the places from..to; answers how many entries the queue has then.
 pub fn sow(
@@ -29,6 +20,7 @@ pub fn sow(
     ensures { λ e. ⌜ Sows width (now (indices .entry)) r from to (now (states .entry)) (now (queue .entry)) (now (parents .entry)) (now (ranks .entry)) tail
         (now (states .exit)) (now (queue .exit)) (now (parents .exit)) (now (ranks .exit)) e ⌝ }
 {
+    let label = accesslabel::label_of(r);
     let mut end = tail;
     for k in from..to {
         let index = indices[k];
@@ -38,9 +30,9 @@ pub fn sow(
             parents,
             ranks,
             end,
-            (32 * (r + 1)) as u16,
+            label,
             index as usize,
-            point_of(index, width),
+            accesslabel::point_of(index, width),
         );
     }
     end

@@ -7,7 +7,7 @@ use Prim.Native.Nat.{ℕ, _+_, _*_, _≤_, _<_}
 use lib.Dec.{T}
 use lib.ListN.{length, set}
 use Rattle.disjoint.specs.Forest.{of, Forest}
-use Rattle.cellstate.specs.Labels.{Label, depthOf}
+use Rattle.cellstate.specs.Labels.{Label}
 use Rattle.cellstate.specs.Looks.{opens}
 use Rattle.labels.specs.Growth.{Met}
 

@@ -20,13 +20,13 @@ same-length-2 : tie.Need-same-length-2
 same-length-2 c = c .before .before .before .before .before .before .before .before .clear .kept .1 .0
 
 same-length-3 : tie.Need-same-length-3
-same-length-3 c = c .before .before .before .before .before .before .before .before .clear .kept .1 .1 .0 ∙ c .before .before .before .before .before .before .before .before .before .before .before .before .before .before .before .before .before .before .before .before .rooted .kept .0
+same-length-3 c = search needs
 
 same-length-4 : tie.Need-same-length-4
 same-length-4 c = c .before .before .before .before .before .before .before .before .clear .kept .1 .1 .1 .0
 
 same-length-5 : tie.Need-same-length-5
-same-length-5 c = c .before .before .before .before .before .before .before .before .before .before .before .before .before .before .before .number .kept .1 .0
+same-length-5 c = search needs
 
 returns : tie.Need-returns
 returns c = record { roots = _; rooted = c .before .before .before .before .before .before .before .before .before .before .before .before .before .before .before .before .before .before .before .before .rooted .ensures; numbers = c .before .before .before .before .before .before .before .before .before .before .before .before .before .before .before .number .ensures; cleared = c .before .before .before .before .before .before .before .before .clear .ensures }

@@ -1,9 +1,9 @@
--- `seeds::sow::point_of`: a row is below 1,048,576.
+-- `accesslabel::point_of`: a row is below 1,048,576.
 use native.Mathlib.Omega.{arith}
 use native.Mathlib.Nat.{mod-lt, div-le-self}
 use borrow.Author.Needs.{needs}
-use Rattle.seeds.proofs.sow.point_of.Statement.{statement}
-use Rattle.seeds.proofs.sow.point_of.Tie as tie
+use Rattle.accesslabel.proofs.point_of.Statement.{statement}
+use Rattle.accesslabel.proofs.point_of.Tie as tie
 
 div-result : tie.Need-div-result
 div-result c = search needs

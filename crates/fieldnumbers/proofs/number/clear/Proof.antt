@@ -1,13 +1,13 @@
--- `numbering::number::clear`: the entries that the loop passed have no number.
+-- `fieldnumbers::number::clear`: the entries that the loop passed have no number.
 use mathlib.Core.Path.{_≡_, refl, _∙_}
 use Prim.Native.Nat.{ℕ, _-_, _≤_, _<_}
 use native.Mathlib.Omega.{arith}
 use borrow.Author.Count.{below-more}
 use lib.ListN.{length, set, length-set}
 use lib.Seq.{getD-set-same, getD-set-other}
 use Rattle.numbering.specs.Fields.{of}
-use Rattle.numbering.proofs.number.clear.Statement.{statement}
-use Rattle.numbering.proofs.number.clear.Tie as tie
+use Rattle.fieldnumbers.proofs.number.clear.Statement.{statement}
+use Rattle.fieldnumbers.proofs.number.clear.Tie as tie
 
 abbrev Inv-loop : tie.InvT-loop
 Inv-loop answers₀ r₀ r-end answers r = (r ≤ length answers₀) × (length answers ≡ length answers₀) × ((j : ℕ) → j < r → of answers j ≡ 65535)

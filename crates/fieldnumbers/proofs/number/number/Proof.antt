@@ -1,13 +1,13 @@
--- `numbering::number::number`: the resources that the loop passed have their numbers.
+-- `fieldnumbers::number::number`: the resources that the loop passed have their numbers.
 use mathlib.Core.Path.{sym, _∙_}
 use Prim.Native.Nat.{_-_, _≤_}
 use borrow.Author.Needs.{needs}
 use native.Mathlib.Omega.{arith}
 use lib.ListN.{length}
 use Rattle.numbering.specs.Fields.{Given}
 use Rattle.numbering.proofs.Giving.{none-given, all-given}
-use Rattle.numbering.proofs.number.number.Statement.{statement}
-use Rattle.numbering.proofs.number.number.Tie as tie
+use Rattle.fieldnumbers.proofs.number.number.Statement.{statement}
+use Rattle.fieldnumbers.proofs.number.number.Tie as tie
 
 abbrev Inv-loop : tie.InvT-loop
 Inv-loop parents answers₀ fields₀ r₀ r-end answers fields r = (r ≤ length parents) × Given parents answers r fields

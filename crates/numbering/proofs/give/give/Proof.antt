@@ -1,9 +1,9 @@
--- `numbering::number::give`: the root of the next resource has a number or takes the next one.
+-- `numbering::give::give`: the root of the next resource has a number or takes the next one.
 use borrow.Author.Needs.{needs}
 use native.Mathlib.Omega.{arith}
 use Rattle.numbering.proofs.Giving.{root-place, given-new, given-old}
-use Rattle.numbering.proofs.number.give.Statement.{statement}
-use Rattle.numbering.proofs.number.give.Tie as tie
+use Rattle.numbering.proofs.give.give.Statement.{statement}
+use Rattle.numbering.proofs.give.give.Tie as tie
 
 mul-root : tie.Need-mul-root
 mul-root c = search needs
