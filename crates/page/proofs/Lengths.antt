@@ -9,7 +9,7 @@ use lib.ListN.{length, length-append}
 use Rattle.decimal.specs.Numbers.{digitsOf, decimalOf}
 use Rattle.decimal.proofs.Digits.{by-cases, length-small, length-large}
 use Rattle.page.specs.Puts.{Room}
-use Rattle.page.specs.Lines.{numberThen, fourLine, windowWord, windowLine, sweepsWord, sweepsLine, cellsWord, cellsLine, groupsWord, groupsLine, wordLine, refusedWord, refusalLine}
+use Rattle.page.specs.Lines.{numberThen, twoThen, windowWord, windowLine, sweepsWord, sweepsLine, cellsWord, cellsLine, groupsWord, groupsLine, wordLine, refusedWord, refusalLine}
 
 -- a number below 10 ^ k has k digits at most
 digits-most : (k n : ℕ) → n < 10 ^ suc k → length (digitsOf n) ≤ suc k
@@ -34,18 +34,13 @@ pub word-most : (k : ℕ) (word : List ℕ) (n : ℕ) → 0 < k → n < 10 ^ k �
 unfolding wordLine
 word-most k word n h i = omega (arith, length-append word (numberThen n 10), then-most k n 10 h i)
 
-module _ (k a b c d : ℕ) where
-  pub four-most : 0 < k → a < 10 ^ k → b < 10 ^ k → c < 10 ^ k → d < 10 ^ k → length (fourLine a b c d) ≤ 4 * (k + 1)
-  unfolding fourLine
-  four-most h p q r s =
-      let two = length-append (numberThen c 32) (numberThen d 10) in
-      let three = length-append (numberThen b 32) (numberThen c 32 ++ numberThen d 10) in
-      let four = length-append (numberThen a 32) (numberThen b 32 ++ (numberThen c 32 ++ numberThen d 10)) in
-      omega (arith, then-most k a 32 h p, then-most k b 32 h q, then-most k c 32 h r, then-most k d 10 h s)
+pub two-most : (k a b byte : ℕ) → 0 < k → a < 10 ^ k → b < 10 ^ k → length (twoThen a b byte) ≤ 2 * (k + 1)
+unfolding twoThen
+two-most k a b byte h p q = omega (arith, length-append (numberThen a 32) (numberThen b byte), then-most k a 32 h p, then-most k b byte h q)
 
-  pub window-most : 0 < k → a < 10 ^ k → b < 10 ^ k → c < 10 ^ k → d < 10 ^ k → length (windowLine a b c d) ≤ 7 + 4 * (k + 1)
-  unfolding windowWord windowLine
-  window-most h p q r s = omega (arith, four-most h p q r s)
+pub window-most : (k a b c d : ℕ) → 0 < k → a < 10 ^ k → b < 10 ^ k → c < 10 ^ k → d < 10 ^ k → length (windowLine a b c d) ≤ 7 + 4 * (k + 1)
+unfolding windowWord windowLine
+window-most k a b c d h p q r s = omega (arith, length-append (twoThen a b 32) (twoThen c d 10), two-most k a b 32 h p q, two-most k c d 10 h r s)
 
 module _ (k n : ℕ) where
   pub sweeps-most : 0 < k → n < 10 ^ k → length (sweepsLine n) ≤ 7 + (k + 1)
@@ -62,8 +57,7 @@ module _ (k n : ℕ) where
 
 pub refusal-most : (k number place : ℕ) → 0 < k → number < 10 ^ k → place < 10 ^ k → length (refusalLine number place) ≤ 8 + 2 * (k + 1)
 unfolding refusedWord refusalLine
-refusal-most k number place h p q =
-    omega (arith, length-append (numberThen number 32) (numberThen place 10), then-most k number 32 h p, then-most k place 10 h q)
+refusal-most k number place h p q = omega (arith, two-most k number place 10 h p q)
 
 -- a refusal's two numbers are u32: 30 bytes are enough
 pub refusal-room : (number place at : ℕ) (page : List ℕ) → number < 4294967296 → place < 4294967296 → at + 30 ≤ length page → Room (refusalLine number place) at page

@@ -8,13 +8,13 @@ use Rattle.decimal.specs.Numbers.{decimalOf}
 unfoldable pub numberThen : ℕ → ℕ → List ℕ
 numberThen number byte = decimalOf (pos number) ++ (byte ∷ [])
 
+-- two numbers' text, a space between them, and the byte after it
+unfoldable pub twoThen : (a b byte : ℕ) → List ℕ
+twoThen a b byte = numberThen a 32 ++ numberThen b byte
+
 -- a line of a word, which ends in a space, and a number
 unfoldable pub wordLine : List ℕ → ℕ → List ℕ
 wordLine word number = word ++ numberThen number 10
-
--- a rectangle's four numbers on a line
-unfoldable pub fourLine : (a b c d : ℕ) → List ℕ
-fourLine a b c d = numberThen a 32 ++ (numberThen b 32 ++ (numberThen c 32 ++ numberThen d 10))
 
 -- `window `
 unfoldable pub windowWord : List ℕ
@@ -22,7 +22,7 @@ windowWord = 119 ∷ 105 ∷ 110 ∷ 100 ∷ 111 ∷ 119 ∷ 32 ∷ []
 
 -- "Window left, top, width, height"
 unfoldable pub windowLine : (left top width height : ℕ) → List ℕ
-windowLine left top width height = windowWord ++ fourLine left top width height
+windowLine left top width height = windowWord ++ (twoThen left top 32 ++ twoThen width height 10)
 
 -- `sweeps `
 unfoldable pub sweepsWord : List ℕ
@@ -58,4 +58,4 @@ refusedWord = 114 ∷ 101 ∷ 102 ∷ 117 ∷ 115 ∷ 101 ∷ 100 ∷ 32 ∷ []
 
 -- "A refusal prints only `refused`, number, place on one line."
 unfoldable pub refusalLine : (number place : ℕ) → List ℕ
-refusalLine number place = refusedWord ++ (numberThen number 32 ++ numberThen place 10)
+refusalLine number place = refusedWord ++ twoThen number place 10

@@ -1,9 +1,9 @@
--- `page::lines::word_line`: the word, and then the number.
+-- `wordlines::word_line`: the word, and then the number.
 use borrow.Author.Needs.{needs}
 use Rattle.page.specs.Lines.{numberThen, wordLine}
 use Rattle.page.proofs.Putting.{puts-more, room-first, room-more}
-use Rattle.page.proofs.lines.word_line.Statement.{statement}
-use Rattle.page.proofs.lines.word_line.Tie as tie
+use Rattle.wordlines.proofs.word_line.Statement.{statement}
+use Rattle.wordlines.proofs.word_line.Tie as tie
 
 word-requires : tie.Need-word-requires
 unfolding wordLine

@@ -1,0 +1,2 @@
+-- The lines before and after those of the target cells.
+pub mod Outer
