@@ -9,7 +9,7 @@ use Rattle.decimal.specs.Numbers.{decimalOf}
 use Rattle.roomlines.specs.Fours.{Four, fourLine, FourFits, AllFit, nothing, more}
 use Rattle.roomlines.specs.Forms.{Counted, FourLines}
 use Rattle.roomlines.proofs.Counted.{counted-one}
-use Rattle.sections.proofs.Stored.{fours-sized}
+use Rattle.fourlines.proofs.Stored.{fours-sized}
 use Rattle.rectangles.specs.Readings.{counted, RectanglesForm, TargetsForm, EndForm}
 use Rattle.rectangles.proofs.Joined.{Ending, both-ending}
 

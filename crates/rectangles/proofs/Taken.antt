@@ -13,8 +13,9 @@ use Rattle.roomlines.specs.Forms.{BreaksIn, LinesAt, Counted, FourLines}
 use Rattle.roomlines.proofs.Counting.{line-on}
 use Rattle.roomlines.proofs.Parts.{sets-append}
 use Rattle.roomlines.proofs.Counted.{lines-append, lines-past, breaks-short}
-use Rattle.sections.specs.Storing.{BufferFits, SectionFound, section, section-broken, SectionTaken, TakesSection, takes-section, breaks-section}
-use Rattle.sections.proofs.Stored.{zeros, zeros-fit, numbers-append, numbers-length, four-long}
+use Rattle.fourlines.specs.Storing.{BufferFits}
+use Rattle.sections.specs.Storing.{SectionFound, section, section-broken, SectionTaken, TakesSection, takes-section, breaks-section}
+use Rattle.fourlines.proofs.Stored.{zeros, zeros-fit, numbers-append, numbers-length, four-long}
 use Rattle.rectangles.specs.Readings.{counted, RectanglesForm, TargetsForm, EndForm, TailForm, end, end-broken, EndTaken, TakesEnd, takes-end, breaks-end, tail, tail-broken, TakesTail, takes-tail, breaks-tail}
 use Rattle.rectangles.proofs.Joined.{first-breaks, second-breaks}
 use Rattle.rectangles.proofs.Forms.{rectangles-ending, fours-form, OneFour, one-four}

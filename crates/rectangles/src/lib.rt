@@ -1,7 +1,7 @@
 // The sections of a room text that are rectangles: blockers, resources and the target box, read one after another and stored in a lent buffer.
 use sections;
 use sections::FoundSection;
-ghost use Rattle.sections.specs.Storing.{BufferFits};
+ghost use Rattle.fourlines.specs.Storing.{BufferFits};
 ghost use Rattle.rectangles.specs.Readings.{TakesEnd, TakesTail};
 ghost use Rattle.rectangles.specs.Answers.{endFound, tailFound};
 

@@ -1,23 +1,21 @@
--- Rows of equal length, read one after another and stored, and their section.
+-- Rows of equal length, read one after another and stored.
 use mathlib.Core.Path.{_≡_, refl, sym, ap, _∙_}
 use mathlib.Core.Bool.{true, false}
 use mathlib.Core.List.{List, [], _∷_, _++_, map, append-assoc, append-nil}
 use Prim.Native.Nat.{ℕ, zero, suc, _+_, _-_, _≤_, _<_}
 use native.Mathlib.Omega.{arith}
-use lib.IntN.{pos}
 use lib.ListN.{length, getD, take, drop, replicate, length-replicate, getD-replicate, length-append, length-drop, length-map}
 use lib.Seq.{sets, length-sets, getD-drop, getD-append-seam}
-use Rattle.decimal.specs.Numbers.{decimalOf}
 use Rattle.decimal.proofs.Digits.{clash}
 use Rattle.textlines.specs.Lines.{textOf, LineAt, ends, unended, FindsLine, line, none}
 use Rattle.textlines.proofs.Lines.{line-one}
-use Rattle.roomlines.specs.Forms.{BreaksIn, LinesAt, CountFound, count, no-count, ReadsCount, refuses-count}
-use Rattle.roomrows.specs.Rows.{isCell, cellOf, cellsOf, RowOf, AllRows, nothing, more, RowLines, JudgesRow, row-stands, no-row, rows, rows-broken, TakesRows, takes-rows, breaks-rows, CellsFit, grid, grid-broken, TakesGrid, takes-grid, breaks-grid}
+use Rattle.roomlines.specs.Forms.{BreaksIn, LinesAt}
+use Rattle.roomrows.specs.Rows.{cellOf, cellsOf, AllRows, nothing, more, RowLines, rows, rows-broken, TakesRows, takes-rows, breaks-rows, CellsFit}
 use Rattle.roomlines.proofs.Spelled.{part-length}
-use Rattle.roomlines.proofs.Counting.{one-line}
 use Rattle.roomlines.proofs.Parts.{sets-append}
-use Rattle.roomlines.proofs.Counted.{lines-append, lines-more, breaks-short, count-broken, counted-broken, count-line, count-most, count-least}
-use Rattle.roomrows.proofs.Bits.{dot-cell, line-feed-no-cell, byte-of}
+use Rattle.roomlines.proofs.Counted.{lines-more}
+use Rattle.rowform.specs.Rows.{isCell, RowOf, JudgesRow, row-stands, no-row}
+use Rattle.rowform.proofs.Cells.{dot-cell, line-feed-no-cell, byte-of}
 
 -- ---- rows in a list
 pub rows-append : {width : ℕ} {ls ms : List (List ℕ)} → AllRows width ls → AllRows width ms → AllRows width (ls ++ ms)
@@ -170,25 +168,3 @@ module _ {text : List ℕ} {at n width : ℕ} {before now : List ℕ} {from to p
           let parts = row-within (r .lines) content others (w .all) in
           let s : w .width ≡ width = same-width (r .all) (parts .0) (λ q. let i = line-one l (row-line content after (parts .1) (start q ∙ e)) in omega (arith, i)) in
           absent content after (rw s at (parts .1)) e
-
--- ---- the section of rows
--- a count in the limits that the rows have
-pub at-least-one : {lowest highest : ℕ} {text : List ℕ} {at : ℕ} {found : CountFound} → ReadsCount lowest highest text at found → lowest ≡ 1 → highest ≡ 2147483647 → ReadsCount 1 2147483647 text at found
-at-least-one r p q = rw (p, q) at r
-
-module _ {text : List ℕ} {at : ℕ} where
-  pub grid-none : {before after : List ℕ} → ReadsCount 1 2147483647 text at no-count → TakesGrid text at before after (grid-broken 0)
-  grid-none (refuses-count absent) = breaks-grid (count-broken (replicate 1 (replicate 1 46)) (omega arith) (some-rows 1) absent)
-
-  module _ {n first : ℕ} (r : ReadsCount 1 2147483647 text at (count n first)) where
-    pub grid-fits : {cells : List ℕ} → CellsFit text at cells → CellsFit text first cells
-    grid-fits b = record { inside = count-line r .inside; long = b .long }
-
-    pub grid-taken : {width past : ℕ} {before after : List ℕ} → TakesRows text first n before after (rows width past) → TakesGrid text at before after (grid width n past)
-    grid-taken (takes-rows t) = takes-grid (record { lines = t .lines; some = t .some; all = t .all; number = t .number; low = count-least r; high = count-most r; stand = lines-append (count-line r) (t .stand); stored = t .stored })
-
-    pub grid-breaks : {passed line : ℕ} {before after : List ℕ} → TakesRows text first n before after (rows-broken passed) → line ≡ passed + 1 → TakesGrid text at before after (grid-broken line)
-    grid-breaks (breaks-rows b) e = rw e (breaks-grid (counted-broken n (count-least r) (count-most r) (count-line r .stands ∙ one-line (decimalOf (pos n)) (drop first text)) b))
-
-    pub grid-short : {passed : ℕ} {before after : List ℕ} → TakesRows text first n before after (rows-broken passed) → passed ≤ length text
-    grid-short (breaks-rows b) = omega (arith, breaks-short b, length-drop first text)

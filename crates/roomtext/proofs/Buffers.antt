@@ -13,7 +13,7 @@ use Rattle.decimal.specs.Numbers.{decimalOf}
 use Rattle.textlines.specs.Lines.{textOf}
 use Rattle.roomlines.specs.Fours.{fourLine, numbersOf}
 use Rattle.roomlines.proofs.Parts.{text-append, length-parts}
-use Rattle.sections.proofs.Stored.{numbers-append, numbers-length}
+use Rattle.fourlines.proofs.Stored.{numbers-append, numbers-length}
 use Rattle.roomrows.specs.Rows.{cellOf, cellsOf, AllRows, nothing, more}
 use Rattle.rectangles.specs.Readings.{counted}
 use Rattle.rectangles.proofs.Taken.{fours-long}

@@ -10,8 +10,9 @@ use Rattle.roomlines.specs.Fours.{Four, fourLine}
 use Rattle.roomlines.specs.Forms.{LinesAt}
 use Rattle.roomlines.proofs.Parts.{length-parts}
 use Rattle.roomlines.proofs.Counted.{lines-append, breaks-short}
-use Rattle.sections.specs.Storing.{BufferFits}
-use Rattle.roomrows.specs.Rows.{CellsFit, grid, grid-broken, GridTaken, TakesGrid, takes-grid, breaks-grid}
+use Rattle.fourlines.specs.Storing.{BufferFits}
+use Rattle.roomrows.specs.Rows.{CellsFit}
+use Rattle.roomgrid.specs.Grids.{grid, grid-broken, GridTaken, TakesGrid, takes-grid, breaks-grid}
 use Rattle.rectangles.specs.Readings.{counted, tail, tail-broken, TailTaken, TakesTail, takes-tail, breaks-tail}
 use Rattle.rectangles.proofs.Joined.{first-breaks, second-breaks}
 use Rattle.rectangles.proofs.Taken.{breaks-number, some-tail}

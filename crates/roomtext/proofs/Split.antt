@@ -11,9 +11,10 @@ use Rattle.decimal.proofs.Digits.{by-cases, digit-range, digits-are, clash}
 use Rattle.textlines.specs.Lines.{textOf, Plain, AllPlain, nothing, more}
 use Rattle.roomlines.specs.Fours.{Four, fourLine}
 use Rattle.roomlines.proofs.Counting.{line-on}
-use Rattle.roomrows.specs.Rows.{isCell, RowOf, AllRows}
+use Rattle.rowform.specs.Rows.{isCell, RowOf}
+use Rattle.roomrows.specs.Rows.{AllRows}
 use Rattle.roomrows.specs.Rows as rows
-use Rattle.roomrows.proofs.Bits.{line-feed-no-cell}
+use Rattle.rowform.proofs.Cells.{line-feed-no-cell}
 use Rattle.rectangles.specs.Readings.{counted}
 use Rattle.roomtext.specs.Room.{Room, roomLines, Formed}
 

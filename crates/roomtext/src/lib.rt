@@ -1,8 +1,8 @@
 // A room text, read section by section in one pass. What is read is stored in lent buffers, and a text that breaks the form is answered with its first line that does.
 use rectangles;
 use rectangles::FoundTail;
-use roomrows::grid;
-use roomrows::grid::FoundGrid;
+use roomgrid;
+use roomgrid::FoundGrid;
 ghost use Rattle.roomtext.specs.Readings.{ReadsRoom, RoomFits};
 ghost use Rattle.roomtext.specs.Answers.{roomFound};
 
@@ -24,7 +24,7 @@ pub fn room(text: &[u8], cells: &mut [u8], numbers: &mut [i32]) -> Reading
     requires { ⌜ RoomFits (now text) (now cells) (now numbers) ⌝ }
     ensures { λ r. ⌜ ReadsRoom (now (text .entry)) (now (cells .entry)) (now (cells .exit)) (now (numbers .entry)) (now (numbers .exit)) (roomFound r) ⌝ }
 {
-    let map = grid::grid(text, 0, cells);
+    let map = roomgrid::grid(text, 0, cells);
     match map {
         FoundGrid::Broken(passed) => {
             return Reading::Broken { line: passed + 1 };

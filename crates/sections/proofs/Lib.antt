@@ -1,3 +1,2 @@
--- What reading and storing the sections of a room text comes to.
-pub mod Stored
+-- What reading and storing a section of a room text comes to.
 pub mod Sections

@@ -9,8 +9,9 @@ use Rattle.decimal.specs.Numbers.{decimalOf}
 use Rattle.roomlines.specs.Forms.{count, no-count, ReadsCount, refuses-count}
 use Rattle.roomlines.proofs.Counting.{one-line}
 use Rattle.roomlines.proofs.Counted.{lines-append, lines-past, breaks-short, count-broken, counted-broken, count-most, count-line, count-least}
-use Rattle.sections.specs.Storing.{BufferFits, up-to, broken, TakesFours, takes-fours, breaks-fours, section, section-broken, TakesSection, takes-section, breaks-section}
-use Rattle.sections.proofs.Stored.{some-fours}
+use Rattle.fourlines.specs.Storing.{BufferFits, up-to, broken, TakesFours, takes-fours, breaks-fours}
+use Rattle.fourlines.proofs.Stored.{some-fours}
+use Rattle.sections.specs.Storing.{section, section-broken, TakesSection, takes-section, breaks-section}
 
 module _ {lowest highest : ℕ} {text : List ℕ} {at : ℕ} where
   pub section-none : {place : ℕ} {before after : List ℤ} → lowest ≤ highest → ReadsCount lowest highest text at no-count → TakesSection lowest highest text at place before after (section-broken 0)

@@ -1,3 +1,3 @@
--- Lines of four numbers and sections of them, and what reading and storing them comes to.
+-- A section of lines of four numbers, and what reading and storing it comes to.
 pub mod Storing
 pub mod Answers

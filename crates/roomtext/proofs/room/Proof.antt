@@ -1,8 +1,8 @@
 -- `roomtext::room`: the rows, the rectangles, and nothing after them.
 use native.Mathlib.Omega.{arith}
 use borrow.Author.Needs.{needs}
-use Rattle.roomrows.specs.Rows.{GridTaken}
-use Rattle.roomrows.specs.Answers.{gridFound}
+use Rattle.roomgrid.specs.Grids.{GridTaken}
+use Rattle.roomgrid.specs.Answers.{gridFound}
 use Rattle.rectangles.specs.Readings.{TailTaken}
 use Rattle.rectangles.specs.Answers.{tailFound}
 use Rattle.roomtext.specs.Answers.{roomFound}

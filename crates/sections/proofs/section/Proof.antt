@@ -3,7 +3,8 @@ use native.Mathlib.Omega.{arith}
 use borrow.Author.Needs.{needs}
 use Rattle.roomlines.specs.Forms.{ReadsCount, count}
 use Rattle.roomlines.specs.Answers.{countFound}
-use Rattle.sections.specs.Answers.{linesFound, sectionFound}
+use Rattle.fourlines.specs.Answers.{linesFound}
+use Rattle.sections.specs.Answers.{sectionFound}
 use Rattle.sections.proofs.Sections.{section-none, section-fits, section-taken, section-breaks, broken-short}
 use Rattle.sections.proofs.section.Statement.{statement}
 use Rattle.sections.proofs.section.Tie as tie

@@ -1,0 +1,2 @@
+-- A row of a map in a room text.
+pub mod Rows
