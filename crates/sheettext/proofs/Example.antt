@@ -11,7 +11,8 @@ use Rattle.halfcost.specs.Costs.{costOf}
 use Rattle.reading.specs.Parts.{partOf}
 use Rattle.ringlists.specs.Places.{inOrder}
 use Rattle.page.specs.Lines.{numberThen, twoThen, wordLine, windowWord, windowLine, sweepsWord, sweepsLine, cellsWord, cellsLine, groupsWord, groupsLine, fieldLine}
-use Rattle.celllines.specs.Costs.{costBytes, costText, costAt, costTexts, cellLine}
+use Rattle.costtext.specs.Costs.{costBytes, costText, costAt}
+use Rattle.celllines.specs.Costs.{costTexts, cellLine}
 use Rattle.targetlines.specs.Targets.{lineAt, rowLines, targetLines}
 use Rattle.outerlines.specs.Outer.{headLines, fieldLines, groupLines}
 use Rattle.sheettext.specs.Sheets.{targetCells, sheetText}

@@ -4,7 +4,8 @@ use Prim.Native.Nat.{_-_, _≤_}
 use native.Mathlib.Omega.{arith}
 use Rattle.page.specs.Puts.{Puts}
 use Rattle.page.proofs.Putting.{puts-none, puts-more, puts-length, room-next}
-use Rattle.celllines.specs.Costs.{costAt, costTexts}
+use Rattle.costtext.specs.Costs.{costAt}
+use Rattle.celllines.specs.Costs.{costTexts}
 use Rattle.celllines.proofs.Lines.{costs-none, costs-more, costs-room}
 use Rattle.celllines.proofs.costs.Statement.{statement}
 use Rattle.celllines.proofs.costs.Tie as tie

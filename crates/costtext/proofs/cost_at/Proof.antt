@@ -1,4 +1,4 @@
--- `celllines::cost_at`: a space, and then `-` past the part's end, or what the lane says.
+-- `costtext::cost_at`: a space, and then `-` past the part's end, or what the lane says.
 use mathlib.Core.Path.{_≡_}
 use mathlib.Core.List.{[], _∷_}
 use borrow.Author.Needs.{needs, sfits-of}
@@ -8,10 +8,10 @@ use mir.Syntax.{w16}
 use mir.Val.{toZ, ofZ}
 use mir.ValLaws.{toZ-ofZ}
 use Rattle.page.proofs.Putting.{puts-more, room-first, room-more}
-use Rattle.celllines.specs.Costs.{costText, costAt}
-use Rattle.celllines.proofs.Lines.{cost-outside, cost-inside}
-use Rattle.celllines.proofs.cost_at.Statement.{statement}
-use Rattle.celllines.proofs.cost_at.Tie as tie
+use Rattle.costtext.specs.Costs.{costText, costAt}
+use Rattle.costtext.proofs.Costs.{cost-outside, cost-inside}
+use Rattle.costtext.proofs.cost_at.Statement.{statement}
+use Rattle.costtext.proofs.cost_at.Tie as tie
 
 byte-requires : tie.Need-byte-requires
 unfolding costAt

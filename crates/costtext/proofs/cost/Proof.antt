@@ -1,4 +1,4 @@
--- `celllines::cost`: by what the lane holds.
+-- `costtext::cost`: by what the lane holds.
 use mathlib.Core.Path.{_≡_, ap, _∙_}
 use mathlib.Core.List.{[], _∷_}
 use borrow.Author.Needs.{needs}
@@ -8,10 +8,10 @@ use mir.ValLaws.{toZ-ofZ}
 use Rattle.decimal.specs.Numbers.{decimalOf}
 use Rattle.halfcost.specs.Costs.{costOf}
 use Rattle.page.proofs.Putting.{puts-number}
-use Rattle.celllines.specs.Costs.{costText}
-use Rattle.celllines.proofs.Lines.{text-none, text-half}
-use Rattle.celllines.proofs.cost.Statement.{statement}
-use Rattle.celllines.proofs.cost.Tie as tie
+use Rattle.costtext.specs.Costs.{costText}
+use Rattle.costtext.proofs.Costs.{text-none, text-half}
+use Rattle.costtext.proofs.cost.Statement.{statement}
+use Rattle.costtext.proofs.cost.Tie as tie
 
 half-cost-requires : tie.Need-half-cost-requires
 half-cost-requires c κs = search needs
