@@ -3,10 +3,11 @@
 use access;
 use accesslists;
 use field;
+use answernumbers;
+use answernumbers::FieldAnswer;
 use fields;
 use numbers;
 use numbers::CountAnswer;
-use numbers::FieldAnswer;
 use reading::Part;
 use recordreading;
 use sheets;
@@ -69,7 +70,7 @@ pub extern "C" fn cerandool_field(
         pulled_down,
         pulled_up,
     );
-    numbers::field_numbers(answer)
+    answernumbers::field_numbers(answer)
 }
 
 // The part of the lent lanes that belongs to the map's cell (x, y), by a window record that the caller may have made up.

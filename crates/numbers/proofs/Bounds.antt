@@ -15,7 +15,7 @@ use Rattle.judge.proofs.Judging.{passes, accepted-parts}
 use Rattle.window.proofs.Edges.{window-in-map}
 use Rattle.refusals.specs.Verdicts.{restTests}
 use Rattle.plan.proofs.Verdicts.{restPart, rest-found}
-use Rattle.numbers.specs.Numbers.{InU32}
+use Rattle.answernumbers.specs.Numbers.{InU32}
 
 module _ (i : FieldInput) (before : Lent) (ok : fieldVerdict reach i before ≡ accepted) where
   -- refusals 4 to 6 were judged, and passed

@@ -1,29 +1,13 @@
-// The answers of the library's calls in numbers alone, as the static library gives them back.
+// The answers of the library's calls that count, in numbers alone, as the static library gives them back.
 use access;
 use accesslists;
-use fieldanswer;
 use fields;
 ghost use mathlib.Core.Path.{_≡_};
 ghost use Prim.Native.Nat.{_≤_};
-ghost use Rattle.fieldanswer.specs.Answers as field;
 ghost use Rattle.access.specs.Answers as access;
 ghost use Rattle.accesslists.specs.Answers as lists;
 ghost use Rattle.fields.specs.Answers as fields;
-ghost use Rattle.numbers.specs.Numbers.{numbersOf, InU32, refusedNumbers, countedNumbers, listedNumbers, ListedInU32, joinedNumbers, JoinedInU32};
-
-// What a field call leads to. Where it is accepted, number and place are 0, and the window with its lanes and the
-// sweep count follow. Where it is refused, number and place are the table's, and the rest is 0.
-#[repr(C)]
-pub struct FieldAnswer {
-    pub number: u32,
-    pub place: u32,
-    pub left: u32,
-    pub top: u32,
-    pub width: u32,
-    pub height: u32,
-    pub lanes: u32,
-    pub sweeps: u32,
-}
+ghost use Rattle.numbers.specs.Numbers.{refusedNumbers, countedNumbers, listedNumbers, ListedInU32, joinedNumbers, JoinedInU32};
 
 // What a call leads to that counts. Where it is accepted, number and place are 0, and how many there are follows.
 // Where it is refused, number and place are the table's, and the count is 0.
@@ -32,35 +16,6 @@ pub struct CountAnswer {
     pub number: u32,
     pub place: u32,
     pub count: u32,
-}
-
-// The eight numbers of a field call's answer.
-pub fn field_numbers(answer: fieldanswer::Answer) -> FieldAnswer
-    requires { ⌜ InU32 (field.answerOf answer) ⌝ }
-    ensures { λ r. ⌜ r ≡ numbersOf (field.answerOf answer) ⌝ }
-{
-    match answer {
-        fieldanswer::Answer::Refused { number, place } => FieldAnswer {
-            number,
-            place,
-            left: 0,
-            top: 0,
-            width: 0,
-            height: 0,
-            lanes: 0,
-            sweeps: 0,
-        },
-        fieldanswer::Answer::Made { window, sweeps } => FieldAnswer {
-            number: 0,
-            place: 0,
-            left: window.left as u32,
-            top: window.top as u32,
-            width: window.width as u32,
-            height: window.height as u32,
-            lanes: window.lanes as u32,
-            sweeps: sweeps as u32,
-        },
-    }
 }
 
 // A refusal's three numbers.

@@ -1,10 +1,10 @@
--- `numbers::field_numbers`: each case gives its own numbers, and those that are cast are u32s.
+-- `answernumbers::field_numbers`: each case gives its own numbers, and those that are cast are u32s.
 use borrow.Author.Needs.{needs}
 use Rattle.window.specs.Windows.{asRecord}
 use Rattle.fieldanswer.specs.Answers.{answerOf}
-use Rattle.numbers.specs.Numbers.{numbersOf, Small, InU32}
-use Rattle.numbers.proofs.field_numbers.Statement.{statement}
-use Rattle.numbers.proofs.field_numbers.Tie as tie
+use Rattle.answernumbers.specs.Numbers.{numbersOf, Small, InU32}
+use Rattle.answernumbers.proofs.field_numbers.Statement.{statement}
+use Rattle.answernumbers.proofs.field_numbers.Tie as tie
 
 enum-known-answer : tie.Need-enum-known-answer
 enum-known-answer c = search needs

@@ -1,0 +1,2 @@
+-- The numbers that stand for an answer.
+pub mod Numbers
