@@ -4,7 +4,7 @@ use mathlib.Core.List.{List}
 use Prim.Native.Nat.{ℕ}
 use lib.IntN.{ℤ}
 use Rattle.walkgraph.specs.AccessPromise.{AccessAnswer}
-use Rattle.walkgraph.proofs.Promises.{clash, same-number}
+use Rattle.walklaws.proofs.Promises.{clash, same-number}
 use Rattle.manyrectangles.specs.Lent.{ListsLent}
 use Rattle.accesslists.specs.AccessListsPromise.{AccessListsPromise, refuses, lists}
 

@@ -8,9 +8,9 @@ use Rattle.walkgraph.specs.Painting.{Rectangle}
 use Rattle.walkgraph.specs.Reading.{WindowRecord, Part, readPart}
 use Rattle.walkgraph.specs.Refusals.{FieldInput}
 use Rattle.walkgraph.specs.FieldsPromise.{JoinInput, JoinLent}
-use Rattle.walkgraph.proofs.Promises.{promise-one}
-use Rattle.walkgraph.proofs.AccessCall.{access-one}
-use Rattle.walkgraph.proofs.FieldsCall.{fields-one}
+use Rattle.walklaws.proofs.Promises.{promise-one}
+use Rattle.walklaws.proofs.AccessCall.{access-one}
+use Rattle.walklaws.proofs.FieldsCall.{fields-one}
 use Rattle.manyrectangles.specs.Lent.{ListsLent}
 use Rattle.accesslists.proofs.AccessListsCall.{access-lists-one}
 use Rattle.reading.specs.declared.Part as code

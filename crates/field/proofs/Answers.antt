@@ -6,7 +6,7 @@ use Rattle.walkgraph.specs.Buffers.{Lent}
 use Rattle.walkgraph.specs.Reading.{WindowRecord}
 use Rattle.walkgraph.specs.Refusals.{FieldInput}
 use Rattle.walkgraph.specs.Promise.{FieldPromise}
-use Rattle.walkgraph.proofs.Promises.{promise-one}
+use Rattle.walklaws.proofs.Promises.{promise-one}
 use Rattle.window.specs.declared.record.Window.{Window}
 use Rattle.window.specs.Windows.{asRecord}
 use Rattle.fieldanswer.specs.declared.Answer.{Answer}

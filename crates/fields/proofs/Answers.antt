@@ -3,7 +3,7 @@ use mathlib.Core.Path.{_≡_, refl}
 use Prim.Native.Nat.{ℕ}
 use native.Mathlib.Omega.{arith}
 use Rattle.walkgraph.specs.FieldsPromise.{JoinInput, JoinLent, FieldsPromise}
-use Rattle.walkgraph.proofs.FieldsCall.{fields-one}
+use Rattle.walklaws.proofs.FieldsCall.{fields-one}
 use Rattle.fields.specs.declared.call.Answer.{Answer}
 use Rattle.fields.specs.declared.call.Answer.the-variants.{Refused, Joined}
 use Rattle.fields.specs.Answers.{answerOf}

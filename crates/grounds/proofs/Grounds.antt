@@ -13,7 +13,7 @@ use Rattle.walkgraph.specs.Sweep.{padded}
 use Rattle.walkgraph.specs.Painting.{painted}
 use Rattle.walkgraph.specs.Buffers.{paddedCells}
 use Rattle.walkgraph.specs.Window.{window}
-use Rattle.walkgraph.proofs.Intervals.{row-interval}
+use Rattle.walklaws.proofs.Intervals.{row-interval}
 use Rattle.cells.specs.declared.boxes.CellBox.{CellBox}
 use Rattle.cells.specs.Boxes.{reach, boxOf}
 use Rattle.window.specs.declared.record.Window.{Window}

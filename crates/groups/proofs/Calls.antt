@@ -12,7 +12,7 @@ use Rattle.walkgraph.specs.Refusals.{accepted, badFours, firstBadResource, shor
 use Rattle.walkgraph.specs.AccessPromise as access
 use Rattle.walkgraph.specs.FieldsPromise.{JoinInput, JoinLent, lengthsOf, fieldsVerdict, FieldsPromise}
 use Rattle.walkgraph.specs.FieldsPromise as join
-use Rattle.walkgraph.proofs.Promises.{clash}
+use Rattle.walklaws.proofs.Promises.{clash}
 use Rattle.judge.proofs.Accepted.{fours}
 use Rattle.judge.proofs.Judging.{passes}
 use Rattle.manyrectangles.specs.Lent.{ListsLent}

@@ -4,7 +4,7 @@ use mathlib.Core.List.{List}
 use Prim.Native.Nat.{ℕ}
 use lib.IntN.{ℤ}
 use Rattle.walkgraph.specs.FieldsPromise.{JoinInput, JoinLent}
-use Rattle.walkgraph.proofs.FieldsCall.{fields-one}
+use Rattle.walklaws.proofs.FieldsCall.{fields-one}
 use Rattle.accesslists.specs.JoinLists.{joinInput}
 use Rattle.accesslists.proofs.AccessListsCall.{access-lists-one}
 use Rattle.groups.specs.Groups.{zeroLists, zeroJoin, Joins, Grouped}

@@ -14,8 +14,8 @@ use Rattle.walkgraph.specs.Sweep.{PaddedWindow, inWindow, padded, sweeps}
 use Rattle.walkgraph.specs.Buffers.{Call, sourceBox, windowOf, paddedOf, unblocked, laneStart, cellPlace, paddedCells, LanesAre, CountIs, flagByte, rowFirst, rowPast, UsedPart, byCell, rowEnds}
 use Rattle.walkgraph.proofs.Boxes.{in-box}
 use Rattle.walkgraph.proofs.Lanes.{LaneRules}
-use Rattle.walkgraph.proofs.Intervals.{row-interval, row-inside, inside-row}
-use Rattle.walkgraph.proofs.FieldCall.{shut, reach-is, SourceIn, lane-sound}
+use Rattle.walklaws.proofs.Intervals.{row-interval, row-inside, inside-row}
+use Rattle.walklaws.proofs.FieldCall.{shut, reach-is, SourceIn, lane-sound}
 use Rattle.lane.specs.Levels.{levelAt}
 use Rattle.row.specs.Visits.{Ground}
 use Rattle.sweep.specs.Sweeps.{Run, Ended, Sweeps}

@@ -13,7 +13,7 @@ use Rattle.walkgraph.specs.Buffers.{Call, paddedOf, laneStart, cellPlace, laneP
 use Rattle.walkgraph.proofs.Lists.{getD-tabulate, length-tabulate}
 use Rattle.walkgraph.proofs.Signed.{subℕ-pos, subℕ-neg}
 use Rattle.walkgraph.proofs.Lanes.{LaneRules}
-use Rattle.walkgraph.proofs.FieldCall.{counted, lanes-made}
+use Rattle.walklaws.proofs.FieldCall.{counted, lanes-made}
 use Rattle.lane.specs.Levels.{level, levelAt}
 use Rattle.plainsweeps.proofs.Columns.{slot}
 use Rattle.plainsweeps.proofs.RowLevels.{Holds}

@@ -13,7 +13,7 @@ use Rattle.walkgraph.specs.Lanes.{bias}
 use Rattle.walkgraph.specs.Sweep.{PaddedWindow, padded}
 use Rattle.walkgraph.specs.Buffers.{Call, resourceCount, sourceBox, windowOf, paddedOf, unblocked, paddedCells, walkByte, flagByte, UsedPart, byCell, rowEnds, laneStart, LanesAre, CountIs, FieldMade}
 use Rattle.walkgraph.proofs.Lists.{placed-above}
-use Rattle.walkgraph.proofs.Intervals.{row-interval}
+use Rattle.walklaws.proofs.Intervals.{row-interval}
 use Rattle.walkgraph.proofs.Lanes.{LaneRules, lane-rules}
 use Rattle.cells.specs.Boxes.{reach}
 use Rattle.lane.specs.Levels.{levelAt, LaneCount}

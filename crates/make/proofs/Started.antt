@@ -15,8 +15,8 @@ use Rattle.walkgraph.proofs.Tests.{by-cases, cond-false}
 use Rattle.walkgraph.proofs.Sweeps.{written-in}
 use Rattle.walkgraph.proofs.Count.{starts-written, started-ind}
 use Rattle.walkgraph.proofs.RelaxedRow.{RowQuiet}
-use Rattle.walkgraph.proofs.Skipping.{Feeds, fresh-start}
-use Rattle.walkgraph.proofs.FieldCall.{shut, sources-in, lane-sound}
+use Rattle.walklaws.proofs.Skipping.{Feeds, fresh-start}
+use Rattle.walklaws.proofs.FieldCall.{shut, sources-in, lane-sound}
 use Rattle.plainsweeps.proofs.RowLevels.{Holds}
 use Rattle.plainsweeps.proofs.Turn.{versionAt, version-in, version-out, pulledAt, pulled-in, pulled-out, pullOf, never}
 use Rattle.plainsweeps.proofs.SweepLevels.{Kept}

@@ -15,7 +15,7 @@ use Rattle.walkgraph.specs.Sweep.{PaddedWindow, starts, startTable}
 use Rattle.walkgraph.specs.Buffers.{Call, paddedOf, windowOf, startsLane, laneStart, cellPlace, paddedCells, rowFirst, rowPast, UsedPart, byCell, rowEnds}
 use Rattle.walkgraph.proofs.Tests.{by-cases}
 use Rattle.walkgraph.proofs.Lists.{getD-tabulate, placed-in, placed-below}
-use Rattle.walkgraph.proofs.FieldCall.{reach-is}
+use Rattle.walklaws.proofs.FieldCall.{reach-is}
 use Rattle.window.specs.Fills.{entries, zeros}
 use Rattle.window.proofs.Fills.{placed-front, placed-past}
 use Rattle.startcells.specs.Hits.{startedLevels}

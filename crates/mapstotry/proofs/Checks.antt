@@ -15,7 +15,7 @@ use Rattle.walkgraph.specs.Window.{floorHalf, windowLow, Inside}
 use Rattle.walkgraph.specs.Field.{Both, WalkCosts, IsField}
 use Rattle.walkgraph.specs.Buffers.{Call, resourceCount, sourceBox, unblocked, windowOf, startsLane, Value, LaneIs, inner, padding}
 use Rattle.walkgraph.proofs.Tests.{and-left, and-right, T-true, bool-eq}
-use Rattle.walkgraph.proofs.Maps.{painted-cell}
+use Rattle.walklaws.proofs.Maps.{painted-cell}
 use Rattle.mapstotry.specs.Drawing.{Terrain}
 use Rattle.mapstotry.specs.Table.{call, Readings, FieldIs, LinkedOn, FieldsAre, Example, lane, windowLeft, painting, field, firstSweepQuiet, equalLanes, fields, Holds, AllHold}
 use Rattle.mapstotry.proofs.Tests.{every, every-at, sameBool, bool-is, sameSigned, signed-is, sameBox, box-is, sameRectangle, rectangle-is}

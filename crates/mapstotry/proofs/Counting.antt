@@ -12,7 +12,7 @@ use Rattle.walkgraph.specs.Sweep.{PaddedWindow, valueAt, sweeps, Quiet}
 use Rattle.walkgraph.specs.Buffers.{Call, resourceCount, paddedOf, laneStart, CountIs}
 use Rattle.walkgraph.proofs.Tests.{and-left, and-right, by-cases}
 use Rattle.walkgraph.proofs.Lists.{getD-tabulate}
-use Rattle.walkgraph.proofs.FieldCall.{unused-lane}
+use Rattle.walklaws.proofs.FieldCall.{unused-lane}
 use Rattle.mapstotry.proofs.Tests.{every, every-at, some, some-at}
 use Rattle.mapstotry.proofs.Runs.{history, history-at, sameTable, table-is, tablesDiffer, tables-differ}
 

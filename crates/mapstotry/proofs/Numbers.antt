@@ -8,7 +8,7 @@ use native.Mathlib.Omega.{arith}
 use lib.Dec.{T, eqb, eqb→eq}
 use Rattle.walkgraph.specs.Links.{Joined, alone, linked, back, chain, Numbered}
 use Rattle.walkgraph.proofs.Tests.{and-left, and-right, or-cases}
-use Rattle.walkgraph.proofs.NumberingMade.{Partial, partial-done, number-old, number-new}
+use Rattle.walklaws.proofs.NumberingMade.{Partial, partial-done, number-old, number-new}
 use Rattle.mapstotry.proofs.Tests.{not-both, every, every-at, some, some-at}
 
 -- how many numbers the first m resources use, where a new number is always the next

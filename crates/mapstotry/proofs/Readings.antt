@@ -12,7 +12,7 @@ use Rattle.walkgraph.specs.Buffers.{Call, resourceCount, windowOf, paddedOf, la
 use Rattle.walkgraph.proofs.Tests.{and-left, and-right}
 use Rattle.walkgraph.proofs.Boxes.{in-box, box-in}
 use Rattle.walkgraph.proofs.Values.{to-field}
-use Rattle.walkgraph.proofs.FieldCall.{counted, restricted}
+use Rattle.walklaws.proofs.FieldCall.{counted, restricted}
 use Rattle.mapstotry.specs.Table.{Reading, cost, unreached, outside, ReadingIs, Readings, readingAt}
 use Rattle.mapstotry.proofs.Tests.{every, every-at, not-both}
 use Rattle.mapstotry.proofs.Counting.{histories, tableAfter, after-is}

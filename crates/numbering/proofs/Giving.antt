@@ -11,7 +11,7 @@ use lib.Seq.{getD-set-same, getD-set-other}
 use Rattle.walkgraph.specs.Links.{Joined, alone, linked, back, chain, Numbered}
 use Rattle.walkgraph.proofs.Tests.{by-cases}
 use Rattle.walkgraph.proofs.Numbering.{seek, numbered-like}
-use Rattle.walkgraph.proofs.NumberingMade.{number-old, number-new, partial-done}
+use Rattle.walklaws.proofs.NumberingMade.{number-old, number-new, partial-done}
 use Rattle.numbering.specs.Fields.{of, SameRoot, Rooted, Cleared, Given, FieldNumbers}
 
 -- resources that a chain joins have one root

@@ -4,7 +4,7 @@ use mathlib.Core.Logic.{_≢_}
 use mathlib.Core.List.{List}
 use Prim.Native.Nat.{ℕ, _≤_, _<_}
 use lib.ListN.{getD, length}
-use Rattle.walkgraph.proofs.NumberingMade.{Partial}
+use Rattle.walklaws.proofs.NumberingMade.{Partial}
 
 -- a list by its entries
 abbrev pub of : List ℕ → ℕ → ℕ

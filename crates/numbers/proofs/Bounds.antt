@@ -7,8 +7,8 @@ use Rattle.walkgraph.specs.Buffers.{Lent, resourceCount, sourceBox, windowOf}
 use Rattle.walkgraph.specs.Reading.{recordOf, noWindow}
 use Rattle.walkgraph.specs.Refusals.{accepted, FieldInput, callOf, fieldVerdict}
 use Rattle.walkgraph.specs.Promise.{FieldAnswer, FieldPromise, refuses, nothing, makes}
-use Rattle.walkgraph.proofs.FieldCall.{counted-most}
-use Rattle.walkgraph.proofs.Promises.{accepted-grid}
+use Rattle.walklaws.proofs.FieldCall.{counted-most}
+use Rattle.walklaws.proofs.Promises.{accepted-grid}
 use Rattle.cells.specs.Boxes.{reach, InMap}
 use Rattle.rings.proofs.Sources.{sources-in-map}
 use Rattle.judge.proofs.Judging.{passes, accepted-parts}

@@ -12,7 +12,7 @@ use Rattle.walkgraph.specs.Sweep.{PaddedWindow, written, readRow, valueAt, Dire
 use Rattle.walkgraph.proofs.Tests.{by-cases}
 use Rattle.walkgraph.proofs.Sweeps.{PaddingShut, written-in, place-place, place-le, sweep-row, sweep-past, swept-first, swept-next}
 use Rattle.walkgraph.proofs.RelaxedRow.{relaxed-length}
-use Rattle.walkgraph.proofs.Skipping.{Fresh, quiet-row, fresh-same, empty-quiet}
+use Rattle.walklaws.proofs.Skipping.{Fresh, quiet-row, fresh-same, empty-quiet}
 use Rattle.row.specs.Visits.{Ground, State, rowAt, feedAt}
 use Rattle.sweep.specs.Sweeps.{Turns, none, more}
 use Rattle.plainsweeps.proofs.RowLevels.{Along, Holds}

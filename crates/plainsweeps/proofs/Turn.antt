@@ -17,7 +17,7 @@ use Rattle.walkgraph.specs.Buffers.{flagByte, cellPlace}
 use Rattle.walkgraph.proofs.Tests.{by-cases, and-left, and-right, and-pair, cond-true, cond-false}
 use Rattle.walkgraph.proofs.Sweeps.{PaddingShut, written-in, place-place, place-le, swept-first, swept-next}
 use Rattle.walkgraph.proofs.RelaxedRow as Relaxed
-use Rattle.walkgraph.proofs.Skipping.{Feeds, Fresh, Relax, relax-fresh, relaxed-quiet, quiet-row, fresh-same, empty-quiet}
+use Rattle.walklaws.proofs.Skipping.{Feeds, Fresh, Relax, relax-fresh, relaxed-quiet, quiet-row, fresh-same, empty-quiet}
 use Rattle.ways.specs.Row.{RowDone}
 use Rattle.row.specs.Visits.{Ground, State, first, past, nextVersions, Visited, empty, skipped, done}
 use Rattle.plainsweeps.proofs.Gates.{FeedsRow}

@@ -11,7 +11,7 @@ use Rattle.walkgraph.specs.Painting.{Rectangle}
 use Rattle.walkgraph.specs.Ring.{pixel}
 use Rattle.walkgraph.specs.Refusals.{badSide, badResource}
 use Rattle.walkgraph.proofs.Tests.{and-left, and-right}
-use Rattle.walkgraph.proofs.Maps.{OnMap}
+use Rattle.walklaws.proofs.Maps.{OnMap}
 use Rattle.cells.proofs.Bools.{clash, not-not, neither}
 
 pub span-below : (size : ℕ) (low high : ℤ) → ltZ low (pos 0) ≡ true → not (badSide size low high) ≡ false

@@ -12,7 +12,7 @@ use Rattle.walkgraph.specs.Painting.{Rectangle, rectangle}
 use Rattle.walkgraph.specs.Ring.{body, ringBox}
 use Rattle.walkgraph.specs.Window.{hull, sources}
 use Rattle.walkgraph.specs.Refusals.{badResource}
-use Rattle.walkgraph.proofs.Maps.{OnMap}
+use Rattle.walklaws.proofs.Maps.{OnMap}
 use Rattle.rings.specs.declared.ring.Ring.{Ring}
 use Rattle.rings.specs.declared.ring.Ring.the-variants.{Present, Refused}
 use Rattle.cells.specs.Boxes.{InMap}

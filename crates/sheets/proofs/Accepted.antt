@@ -13,7 +13,7 @@ use Rattle.walkgraph.specs.Reading.{WindowRecord, recordOf, noWindow}
 use Rattle.walkgraph.specs.Refusals.{accepted, badGrid, badFours, badResource, firstBadResource, badSpan, FieldInput, callOf, fieldVerdict}
 use Rattle.walkgraph.specs.Promise.{FieldPromise, made, nothing, makes}
 use Rattle.walkgraph.proofs.Lists.{first-from}
-use Rattle.walkgraph.proofs.FieldCall.{counted-most}
+use Rattle.walklaws.proofs.FieldCall.{counted-most}
 use Rattle.cells.specs.Boxes.{reach, InMap}
 use Rattle.cells.proofs.Bools.{neither}
 use Rattle.rings.proofs.Sources.{sources-in-map}

@@ -9,8 +9,8 @@ use Rattle.walkgraph.specs.Buffers.{Lent}
 use Rattle.walkgraph.specs.Reading.{WindowRecord}
 use Rattle.walkgraph.specs.Refusals.{accepted, FieldInput, fieldVerdict}
 use Rattle.walkgraph.specs.Promise.{FieldPromise, made, nothing, makes}
-use Rattle.walkgraph.proofs.Promises.{same-number, promise-one}
-use Rattle.walkgraph.proofs.Promises as promises
+use Rattle.walklaws.proofs.Promises.{same-number, promise-one}
+use Rattle.walklaws.proofs.Promises as promises
 use Rattle.cells.specs.Boxes.{reach}
 use Rattle.decimal.proofs.Digits.{clash}
 use Rattle.groups.proofs.Once.{groups-one}

@@ -14,8 +14,8 @@ use Rattle.walkgraph.specs.Buffers.{Call, resourceCount, windowOf, paddedOf, st
 use Rattle.walkgraph.proofs.Tests.{and-left, and-right, and-pair, bool-eq}
 use Rattle.walkgraph.proofs.Boxes.{in-box, box-in}
 use Rattle.walkgraph.proofs.Places.{flat-row, flat-column}
-use Rattle.walkgraph.proofs.Intervals.{row-interval}
-use Rattle.walkgraph.proofs.FieldCall.{shut, width-is, height-is}
+use Rattle.walklaws.proofs.Intervals.{row-interval}
+use Rattle.walklaws.proofs.FieldCall.{shut, width-is, height-is}
 use Rattle.walkgraph.proofs.Sweeps.{PaddingShut}
 use Rattle.window.specs.declared.record.Window.{Window}
 use Rattle.window.specs.Windows.{windowOver}

@@ -9,7 +9,7 @@ use lib.Dec.{T, ltb, ltb→lt, lt→ltb}
 use lib.Arith.{digits-div, digits-mod}
 use Rattle.walkgraph.specs.Walk.{distance, Step, straight, diagonal}
 use Rattle.walkgraph.proofs.Tests.{by-cases, and-left, and-right, and-pair}
-use Rattle.walkgraph.proofs.SearchEnd.{Adj}
+use Rattle.walklaws.proofs.SearchEnd.{Adj}
 use Rattle.disjoint.specs.Forest.{of}
 use Rattle.cellstate.specs.Looks.{opens}
 use Rattle.visits.specs.SearchState.{Walks}

@@ -1,4 +1,4 @@
--- The mathematics of the walk graph: walks, windows, sweeps and their count, the field call and its promise, access cells, links, the disjoint set, numbering, and the fields call.
+-- The mathematics of the walk graph that its definitions are tried by: walks, windows, sweeps and their count, access cells, links and numbering.
 pub mod Tests
 pub mod Lists
 pub mod Signed
@@ -10,27 +10,12 @@ pub mod Walks
 pub mod Values
 pub mod WholeMap
 pub mod Settled
-pub mod Consecutive
-pub mod Intervals
 pub mod Places
 pub mod RowPasses
 pub mod RelaxedRow
 pub mod Sweeps
-pub mod Skipping
-pub mod OnMap
-pub mod Maps
 pub mod Count
-pub mod FieldCall
 pub mod LinkSearch
-pub mod Tally
-pub mod SearchTurns
-pub mod SearchEnd
-pub mod DisjointSet
-pub mod Ranks
 pub mod Numbering
-pub mod NumberingMade
+pub mod FieldNumbers
 pub mod AccessList
-pub mod Readings
-pub mod Promises
-pub mod AccessCall
-pub mod FieldsCall

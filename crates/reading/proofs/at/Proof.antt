@@ -4,7 +4,7 @@ use Prim.Native.Nat.{_+_, _-_, _≤_}
 use native.Mathlib.Omega.{arith}
 use borrow.Author.Needs.{needs}
 use lib.ListN.{length}
-use Rattle.walkgraph.proofs.Readings.{read-in}
+use Rattle.walklaws.proofs.Readings.{read-in}
 use Rattle.window.specs.Windows.{asRecord}
 use Rattle.reading.specs.Parts.{partOf}
 use Rattle.reading.proofs.at.Statement.{statement}

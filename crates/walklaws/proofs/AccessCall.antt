@@ -2,9 +2,9 @@
 use mathlib.Core.Path.{_≡_, refl}
 use mathlib.Core.List.{List}
 use Prim.Native.Nat.{ℕ}
 use Rattle.walkgraph.specs.Painting.{Rectangle}
 use Rattle.walkgraph.specs.AccessPromise.{AccessAnswer, AccessPromise, refuses, lists}
-use Rattle.walkgraph.proofs.Promises.{clash, same-number}
+use Rattle.walklaws.proofs.Promises.{clash, same-number}
 
 pub access-one : (width height : ℕ) (cells : List ℕ) (r : Rectangle) (before : List ℕ) {d e : List ℕ} {a b : AccessAnswer} →
     AccessPromise width height cells r before d a → AccessPromise width height cells r before e b → (d ≡ e) × (a ≡ b)

@@ -10,22 +10,22 @@ use lib.ListN.{getD}
 use lib.Seq.{ext-getD}
 use lib.IntN.{ℤ, pos}
 use lib.Dec.{T, ltb, ltb→lt}
 use Rattle.walkgraph.specs.Lanes.{cap, unreachable, bias, laneOf}
 use Rattle.walkgraph.specs.Map.{Box, In}
 use Rattle.walkgraph.specs.Painting.{rectangle}
 use Rattle.walkgraph.specs.Ring.{ring}
 use Rattle.walkgraph.specs.Window.{Inside}
 use Rattle.walkgraph.specs.Field.{Both, WalkCosts, IsField}
 use Rattle.walkgraph.specs.Sweep.{PaddedWindow, valueAt, sweeps, inWindow, padded}
 use Rattle.walkgraph.specs.Buffers.{Call, resourceCount, sourceBox, unblocked, windowOf, paddedOf, startsLane, Value, LaneIs, inner, padding, cellPlace, lanePlace, paddedCells, LanesAre, UsedPart, Lent, FieldMade, laneStart, CountIs}
 use Rattle.walkgraph.proofs.Tests.{by-cases, decT, and-left, and-right}
 use Rattle.walkgraph.proofs.Boxes.{in-box, box-in}
 use Rattle.walkgraph.proofs.Values.{Capped, to-capped, to-field, field-one}
 use Rattle.walkgraph.proofs.WholeMap.{whole-map}
 use Rattle.walkgraph.proofs.Sweeps.{Allowed, PaddingShut, written-in, Sound, sweeps-sound, sound-shut}
-use Rattle.walkgraph.proofs.Maps.{painted-cell, ring-sources, outside}
+use Rattle.walklaws.proofs.Maps.{painted-cell, ring-sources, outside}
 use Rattle.walkgraph.proofs.Count.{start-sound, count-one, count-most, count-field}
-use Rattle.walkgraph.proofs.OnMap as OnMap
+use Rattle.walklaws.proofs.OnMap as OnMap
 
 -- ---- no two different results
 

@@ -3,11 +3,11 @@ use mathlib.Core.Path.{_≡_}
 use Prim.Native.Nat.{ℕ, suc, _+_, _*_, _/_, _%_, _<_}
 use lib.Dec.{T}
 use lib.Arith.{digits-div, digits-mod}
 use Rattle.walkgraph.specs.Walk.{Step, Walk, on}
 use Rattle.walkgraph.specs.Links.{Linked, Joined}
 use Rattle.walkgraph.proofs.LinkSearch.{Searched, search-joined, met-linked}
 use Rattle.walkgraph.proofs.Walks.{step-sym, step-over, walk-over}
-use Rattle.walkgraph.proofs.SearchTurns.{State, Turn, end-spread, end-met}
+use Rattle.walklaws.proofs.SearchTurns.{State, Turn, end-spread, end-met}
 
 -- two indices of a map of width w, a step apart and both walkable
 pub record Adj (w : ℕ) (Walkable : ℕ → ℕ → Type 0) (c v : ℕ) : Type 0 where

@@ -5,14 +5,14 @@ use Prim.Native.Nat.{ℕ, suc, _+_, _-_, _≤_, _<_}
 use native.Mathlib.Omega.{arith}
 use native.Mathlib.Decide.{decLe}
 use lib.Dec.{T}
 use Rattle.walkgraph.specs.Lists.{firstFrom, pastLast}
 use Rattle.walkgraph.specs.Map.{Box}
 use Rattle.walkgraph.specs.Sweep.{PaddedWindow, padded}
 use Rattle.walkgraph.specs.Buffers.{rowFirst, rowPast}
 use Rattle.walkgraph.proofs.Tests.{by-cases}
 use Rattle.walkgraph.proofs.Lists.{IsFirst, first-from, IsPast, nobody, somebody, past-last}
 use Rattle.walkgraph.proofs.WindowEdges.{true-inside, inside-true}
-use Rattle.walkgraph.proofs.Consecutive.{convex}
+use Rattle.walklaws.proofs.Consecutive.{convex}
 
 -- f marks the inside columns of 1 .. w. [a, b) is their interval
 pub record IsInterval (f : ℕ → Bool) (w a b : ℕ) : Type 0 where

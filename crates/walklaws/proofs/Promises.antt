@@ -7,18 +7,18 @@ use native.Mathlib.Omega.{arith}
 use lib.ListN.{getD, length}
 use lib.IntN.{pos}
 use lib.Dec.{T, leb, ltb, eqb, leb→le, ltb→lt, eqb→eq, le→leb, lt→ltb, not-T}
 use Rattle.walkgraph.specs.Lanes.{unreachable, bias, laneOf}
 use Rattle.walkgraph.specs.Map.{Box, In, inBox}
 use Rattle.walkgraph.specs.Window.{window}
 use Rattle.walkgraph.specs.Sweep.{inWindow}
 use Rattle.walkgraph.specs.Buffers.{Call, sourceBox, windowOf, paddedOf, paddedCells, Lent, FieldMade, Value, LaneIs, inner, padding, lanePlace, cellPlace}
 use Rattle.walkgraph.specs.Reading.{WindowRecord, recordOf, Part, readPart, fits, inRecord, outsidePart}
 use Rattle.walkgraph.specs.Refusals.{Verdict, accepted, refused, judge, all, badGrid, badLanes, badFours, shortBuffers, FieldInput, callOf, fieldVerdict}
 use Rattle.walkgraph.specs.Promise.{FieldAnswer, made, FieldPromise, refuses, nothing, makes, shows, outside, Demand3}
 use Rattle.walkgraph.proofs.Tests.{by-cases, and-left, and-right, and-pair, cond-true, cond-false, decT}
 use Rattle.walkgraph.proofs.Boxes.{box-in, in-box}
 use Rattle.walkgraph.proofs.WindowEdges.{window-high}
-use Rattle.walkgraph.proofs.FieldCall.{made-one, width-is, height-is, value-exact, target-outside}
+use Rattle.walklaws.proofs.FieldCall.{made-one, width-is, height-is, value-exact, target-outside}
 
 -- ---- a judged call
 judge-accepted : (test : Bool) (number place : ℕ) (next : Verdict) → judge test number place next ≡ accepted → (test ≡ false) × (next ≡ accepted)

@@ -1,0 +1,1 @@
+// More mathematics of the walk graph, in proofs/: what the code and the promises rest on. No code.
