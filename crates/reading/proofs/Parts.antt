@@ -3,8 +3,7 @@ use mathlib.Core.Path.{_≡_, sym, ap, _∙_}
 use mathlib.Core.Bool.{true, false, not, _&&_, _||_}
 use mathlib.Core.List.{List}
 use mathlib.Core.Logic.{⊎-elim}
-use Prim.Native.Nat.{ℕ, _+_, _*_, _-_, _≤_}
-use native.Mathlib.Nat.{mul-le-mul}
+use Prim.Native.Nat.{ℕ, _+_, _*_, _-_}
 use native.Mathlib.Omega.{arith}
 use lib.ListN.{length}
 use lib.IntN.{ℤ}
@@ -14,7 +13,8 @@ use Rattle.walkgraph.specs.Reading.{WindowRecord, fits, inRecord, outsidePart, 
 use Rattle.walkgraph.specs.Refusals.{badLanes}
 use Rattle.cells.proofs.Bools.{both}
 use Rattle.judge.proofs.Accepted.{lanes}
-use Rattle.reading.specs.Parts.{OfCell, partOf}
+use Rattle.windowrecord.specs.Records.{OfCell}
+use Rattle.reading.specs.Parts.{partOf}
 
 module _ (r : WindowRecord) (n x y : ℕ) where
   pub outside : (fits r n && inRecord r x y) ≡ false → readPart r n x y ≡ outsidePart
@@ -47,19 +47,6 @@ module _ (r : WindowRecord) (n x y : ℕ) where
         from-top = leb-true (r .top) y (f .1);
         row = ltb-true (y - r .top) (r .height) (d .1);
       }
-
--- the lanes of a cell start early enough that a machine counts them
-module _ (r : WindowRecord) (x y : ℕ) (o : OfCell r x y) where
-  pub row-start : (y - r .top + 1) * (r .width + 2) ≤ 1024 * 1026
-  row-start =
-      let p : y - r .top + 1 ≤ 1024 = omega (arith, o .row, o .high) in
-      let q : r .width + 2 ≤ 1026 = omega (arith, o .wide) in
-      mul-le-mul p q
-
-  pub lane-start : ((y - r .top + 1) * (r .width + 2) + (x - r .left + 1)) * r .lanes ≤ 1024 * 1027 * 16
-  lane-start =
-      let p : (y - r .top + 1) * (r .width + 2) + (x - r .left + 1) ≤ 1024 * 1027 = omega (arith, row-start, o .column, o .wide) in
-      mul-le-mul p (o .few)
 
 -- no two parts meet the promise of a read
 pub read-once : (r : WindowRecord) (x y : ℕ) (all one other : List ℤ) → one ≡ partOf (readPart r (length all) x y) all → other ≡ partOf (readPart r (length all) x y) all → one ≡ other

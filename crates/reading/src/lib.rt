@@ -1,47 +1,20 @@
 // Reading a cell of a field: by the window's record, which the caller may have made up, and the lanes that were lent to the field call.
-use window::record;
 use window::record::Window;
+use windowrecord;
 ghost use mathlib.Core.Path.{_≡_};
 ghost use mathlib.Core.Bool.{_&&_};
-ghost use Prim.Native.Nat.{_+_, _*_, _-_, _≤_};
+ghost use Prim.Native.Nat.{_-_};
 ghost use lib.Dec.{leb, ltb};
 ghost use lib.ListN.{length};
 ghost use Rattle.walkgraph.specs.Reading.{fits, inRecord, readPart};
 ghost use Rattle.window.specs.Windows.{asRecord};
-ghost use Rattle.reading.specs.Parts.{asPart, hasRoom, OfCell, partOf};
+ghost use Rattle.reading.specs.Parts.{asPart, partOf};
 
 // A part of the lent lanes: where it starts, and how long it is. Both are 0 for a cell outside.
 #[repr(C)]
 pub struct Part {
     pub start: usize,
     pub length: usize,
-}
-
-// Whether a record is in the limits of a map, and its lanes are no more than length.
-fn room(window: Window, length: usize) -> bool
-    requires { ⌜ window .lanes ≤ 16 ⌝ }
-    ensures { λ r. ⌜ r ≡ hasRoom (asRecord window) length ⌝ }
-{
-    if 1024 < window.width {
-        return false;
-    }
-    if 1024 < window.height {
-        return false;
-    }
-    record::padded(window) * window.lanes <= length
-}
-
-// Whether a record is one that a buffer of so many lanes holds.
-fn fits(window: Window, length: usize) -> bool
-    ensures { λ r. ⌜ r ≡ fits (asRecord window) length ⌝ }
-{
-    if window.lanes == 8 {
-        return room(window, length);
-    }
-    if window.lanes == 16 {
-        return room(window, length);
-    }
-    false
 }
 
 // Whether a value is one of count from start on.
@@ -58,23 +31,13 @@ fn among(start: usize, count: usize, value: usize) -> bool
 fn holds(window: Window, length: usize, x: usize, y: usize) -> bool
     ensures { λ r. ⌜ r ≡ (fits (asRecord window) length && inRecord (asRecord window) x y) ⌝ }
 {
-    if !fits(window, length) {
+    if !windowrecord::fits(window, length) {
         return false;
     }
     if !among(window.left, window.width, x) {
         return false;
     }
     among(window.top, window.height, y)
-}
-
-// Where the lanes of the cell start.
-fn start_of(window: Window, x: usize, y: usize) -> usize
-    requires { ⌜ OfCell (asRecord window) x y ⌝ }
-    ensures { λ r. ⌜ r ≡ ((y - window .top + 1) * (window .width + 2) + (x - window .left + 1)) * window .lanes ⌝ }
-{
-    let row = y - window.top + 1;
-    let column = x - window.left + 1;
-    (row * record::stride(window) + column) * window.lanes
 }
 
 // The part that belongs to the map's cell (x, y), of a buffer of so many lanes.
@@ -88,7 +51,7 @@ pub fn cell_part(window: Window, length: usize, x: usize, y: usize) -> Part
         };
     }
     Part {
-        start: start_of(window, x, y),
+        start: windowrecord::start_of(window, x, y),
         length: window.lanes,
     }
 }

@@ -1,9 +1,9 @@
--- `reading::start_of`: rows and columns are few, so their products fit.
+-- `windowrecord::start_of`: rows and columns are few, so their products fit.
 use native.Mathlib.Omega.{arith}
 use borrow.Author.Needs.{needs}
-use Rattle.reading.proofs.Parts.{row-start, lane-start}
-use Rattle.reading.proofs.start_of.Statement.{statement}
-use Rattle.reading.proofs.start_of.Tie as tie
+use Rattle.windowrecord.proofs.Starts.{row-start, lane-start}
+use Rattle.windowrecord.proofs.start_of.Statement.{statement}
+use Rattle.windowrecord.proofs.start_of.Tie as tie
 
 sub-row : tie.Need-sub-row
 sub-row c = search needs

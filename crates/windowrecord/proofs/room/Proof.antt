@@ -1,12 +1,12 @@
--- `reading::room`: the limits come first, so the product fits.
+-- `windowrecord::room`: the limits come first, so the product fits.
 use Prim.Native.Nat.{_+_, _*_, _≤_}
 use native.Mathlib.Nat.{mul-le-mul}
 use native.Mathlib.Omega.{arith}
 use borrow.Author.Needs.{needs}
 use borrow.Author.Tests.{le-leb, lt-leb}
-use Rattle.reading.specs.Parts.{hasRoom}
-use Rattle.reading.proofs.room.Statement.{statement}
-use Rattle.reading.proofs.room.Tie as tie
+use Rattle.windowrecord.specs.Records.{hasRoom}
+use Rattle.windowrecord.proofs.room.Statement.{statement}
+use Rattle.windowrecord.proofs.room.Tie as tie
 
 returns : tie.Need-returns
 unfolding hasRoom

@@ -1,0 +1,2 @@
+-- What the code tests of a window's record.
+pub mod Records
