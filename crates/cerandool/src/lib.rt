@@ -2,9 +2,9 @@
 // the fields call, and the sheet of a room text. None requires anything of what it is given.
 use access;
 use accesslists;
-use field;
 use answernumbers;
 use answernumbers::FieldAnswer;
+use field;
 use fields;
 use numbers;
 use numbers::CountAnswer;
