@@ -11,7 +11,7 @@ use Rattle.walkgraph.specs.FieldsPromise.{JoinInput, Access, LinkedBy}
 use Rattle.walkgraph.proofs.Tests.{by-cases}
 use Rattle.walkgraph.proofs.Walks.{walk-over}
 use Rattle.walkgraph.proofs.LinkSearch.{joined-by}
-use Rattle.walklaws.proofs.DisjointSet.{Same, same-back, same-chain}
+use Rattle.walkgraph.proofs.DisjointSet.{Same, same-back, same-chain}
 use Rattle.walklaws.proofs.SearchEnd.{linked-over}
 use Rattle.disjoint.specs.Forest.{of}
 use Rattle.cellstate.specs.Labels.{ownerOf}

@@ -11,9 +11,9 @@ use lib.ListN.{length, set, length-set}
 use lib.Seq.{getD-set-same, getD-set-other}
 use borrow.Author.Tests.{ne-eqb}
 use Rattle.walkgraph.proofs.Tests.{by-cases}
-use Rattle.walklaws.proofs.Tally.{tally, tally-flip}
-use Rattle.walklaws.proofs.DisjointSet.{Root, top, up, root-top, root-self, short-root, short-ranked}
-use Rattle.walklaws.proofs.Ranks.{Sized, rank-9}
+use Rattle.walkgraph.proofs.Tally.{tally, tally-flip}
+use Rattle.walkgraph.proofs.DisjointSet.{Root, top, up, root-top, root-self, short-root, short-ranked}
+use Rattle.walkgraph.proofs.Ranks.{Sized, rank-9}
 use Rattle.disjoint.specs.Forest.{of, Forest, Begun, Found}
 
 -- ---- each member a class by itself

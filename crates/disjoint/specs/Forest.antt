@@ -3,8 +3,8 @@ use mathlib.Core.Path.{_≡_}
 use mathlib.Core.List.{List}
 use Prim.Native.Nat.{ℕ, _≤_, _<_}
 use lib.ListN.{getD, length}
-use Rattle.walklaws.proofs.DisjointSet.{Root, Ranked}
-use Rattle.walklaws.proofs.Ranks.{Sized}
+use Rattle.walkgraph.proofs.DisjointSet.{Root, Ranked}
+use Rattle.walkgraph.proofs.Ranks.{Sized}
 
 -- a list by its entries
 abbrev pub of : List ℕ → ℕ → ℕ

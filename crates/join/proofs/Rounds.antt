@@ -15,7 +15,7 @@ use lib.ListN.{length}
 use borrow.Author.Tests.{eq-eqb, ne-eqb}
 use Rattle.walkgraph.proofs.Tests.{by-cases, and-left, and-right, and-pair}
 use Rattle.walkgraph.proofs.Places.{flat-lt}
-use Rattle.walklaws.proofs.DisjointSet.{Same}
+use Rattle.walkgraph.proofs.DisjointSet.{Same}
 use Rattle.walklaws.proofs.SearchTurns.{next-turn, queue-in}
 use Rattle.walklaws.proofs.SearchEnd.{Adj}
 use Rattle.disjoint.specs.Forest.{of}

@@ -10,7 +10,7 @@ use lib.ListN.{length, List·getD-eq-default}
 use Rattle.walkgraph.specs.Links.{Joined, linked}
 use Rattle.walkgraph.proofs.Tests.{by-cases}
 use Rattle.walkgraph.proofs.LinkSearch.{joined-by}
-use Rattle.walklaws.proofs.DisjointSet.{Root, top, up, Same, same-back, same-chain}
+use Rattle.walkgraph.proofs.DisjointSet.{Root, top, up, Same, same-back, same-chain}
 use Rattle.walklaws.proofs.SearchTurns.{queue-in}
 use Rattle.walklaws.proofs.SearchEnd.{joined}
 use Rattle.disjoint.specs.Forest.{of, Forest}

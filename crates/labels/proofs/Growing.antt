@@ -9,7 +9,7 @@ use lib.ListN.{length}
 use Rattle.walkgraph.specs.Links.{Joined, linked, back, chain}
 use Rattle.walkgraph.proofs.Tests.{by-cases}
 use Rattle.walkgraph.proofs.LinkSearch.{joined-by}
-use Rattle.walklaws.proofs.DisjointSet.{Root, up, Same}
+use Rattle.walkgraph.proofs.DisjointSet.{Root, up, Same}
 use Rattle.disjoint.specs.Forest.{of, Forest}
 use Rattle.unions.specs.Joining.{United}
 use Rattle.cellstate.specs.Labels.{ownerOf, depthOf, Label}

@@ -5,7 +5,7 @@ use mathlib.Core.List.{List}
 use Prim.Native.Nat.{ℕ, _+_, _<_}
 use lib.ListN.{length}
 use Rattle.walkgraph.specs.Links.{Joined}
-use Rattle.walklaws.proofs.DisjointSet.{Same}
+use Rattle.walkgraph.proofs.DisjointSet.{Same}
 use Rattle.disjoint.specs.Forest.{of, Forest}
 use Rattle.cellstate.specs.Labels.{ownerOf, depthOf}
 

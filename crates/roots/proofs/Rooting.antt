@@ -6,7 +6,7 @@ use native.Mathlib.Decide.{ℕ-discrete}
 use native.Mathlib.Omega.{arith}
 use lib.ListN.{length}
 use Rattle.walkgraph.proofs.Tests.{by-cases}
-use Rattle.walklaws.proofs.DisjointSet.{Root, root-top, root-one, Same}
+use Rattle.walkgraph.proofs.DisjointSet.{Root, root-top, root-one, Same}
 use Rattle.disjoint.specs.Forest.{of, Forest, Found}
 use Rattle.roots.specs.Roots.{Rooting, AtRoots}
 

@@ -3,7 +3,7 @@ use mathlib.Core.Path.{_≡_}
 use mathlib.Core.List.{List}
 use Prim.Native.Nat.{ℕ, _<_}
 use lib.ListN.{length}
-use Rattle.walklaws.proofs.DisjointSet.{Root}
+use Rattle.walkgraph.proofs.DisjointSet.{Root}
 use Rattle.disjoint.specs.Forest.{of, Forest}
 use Rattle.numbering.specs.Fields.{Rooted}
 

@@ -13,8 +13,8 @@ use Rattle.walkgraph.specs.Links.{Joined, alone}
 use Rattle.walkgraph.specs.FieldsPromise.{JoinInput, WalkableOn, LinkedBy}
 use Rattle.walkgraph.proofs.Tests.{by-cases, and-left, and-right, and-pair}
 use Rattle.walkgraph.proofs.Places.{flat-lt}
-use Rattle.walklaws.proofs.Tally.{tally-sum}
-use Rattle.walklaws.proofs.DisjointSet.{Same, root-self}
+use Rattle.walkgraph.proofs.Tally.{tally-sum}
+use Rattle.walkgraph.proofs.DisjointSet.{Same, root-self}
 use Rattle.disjoint.specs.Forest.{of, Begun}
 use Rattle.cellstate.specs.Labels.{depthOf}
 use Rattle.visits.specs.SearchState.{isLabel, Walks, Seeds, Planting}

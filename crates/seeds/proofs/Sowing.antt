@@ -14,7 +14,7 @@ use Rattle.walkgraph.specs.Links.{Joined, linked}
 use Rattle.walkgraph.specs.FieldsPromise.{JoinInput, startOf, WalkableOn, Access, LinkedBy}
 use Rattle.walkgraph.proofs.Tests.{by-cases}
 use Rattle.walkgraph.proofs.LinkSearch.{joined-by}
-use Rattle.walklaws.proofs.DisjointSet.{Same}
+use Rattle.walkgraph.proofs.DisjointSet.{Same}
 use Rattle.disjoint.specs.Forest.{of}
 use Rattle.cellstate.specs.Labels.{ownerOf, depthOf, cellOf}
 use Rattle.labels.specs.Growth.{Chained, Close, Met}

@@ -6,7 +6,7 @@ use Prim.Native.Nat.{ℕ, _+_, _*_, _≤_, _<_}
 use lib.ListN.{getD, length}
 use Rattle.walkgraph.specs.Links.{Joined}
 use Rattle.walkgraph.specs.FieldsPromise.{JoinInput, startOf, WalkableOn, Access, LinkedBy}
-use Rattle.walklaws.proofs.DisjointSet.{Same}
+use Rattle.walkgraph.proofs.DisjointSet.{Same}
 use Rattle.disjoint.specs.Forest.{of}
 use Rattle.cellstate.specs.Labels.{ownerOf, depthOf}
 use Rattle.visits.specs.SearchState.{Walks, Seeds, Planting}

@@ -10,8 +10,8 @@ use lib.Dec.{eqb}
 use lib.ListN.{length, set, length-set}
 use lib.Seq.{getD-set-same, getD-set-other}
 use Rattle.walkgraph.proofs.Tests.{by-cases}
-use Rattle.walklaws.proofs.DisjointSet.{Root, top, root-top, root-one, link-moved, link-kept, Same, same-back, same-chain}
-use Rattle.walklaws.proofs.Ranks.{link-sized, link-ranked}
+use Rattle.walkgraph.proofs.DisjointSet.{Root, top, root-top, root-one, link-moved, link-kept, Same, same-back, same-chain}
+use Rattle.walkgraph.proofs.Ranks.{link-sized, link-ranked}
 use Rattle.disjoint.specs.Forest.{of, Forest, Found}
 use Rattle.byrank.specs.Ranks.{lowerRoot, raisedRank}
 use Rattle.byrank.proofs.ByRank.{lower-left, lower-right, raised-same, raised-other}

@@ -4,7 +4,7 @@ use mathlib.Core.Logic.{_⊎_}
 use mathlib.Core.List.{List}
 use Prim.Native.Nat.{ℕ, _<_}
 use lib.ListN.{length}
-use Rattle.walklaws.proofs.DisjointSet.{Same}
+use Rattle.walkgraph.proofs.DisjointSet.{Same}
 use Rattle.disjoint.specs.Forest.{of, Forest}
 
 -- members i and j are in one class now; others are in one class if they were, or if one was in the class of i and the other in that of j

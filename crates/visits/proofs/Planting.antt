@@ -11,7 +11,7 @@ use lib.ListN.{length, set, length-set}
 use lib.Seq.{getD-set-same, getD-set-other}
 use Rattle.walkgraph.specs.Walk.{here}
 use Rattle.walkgraph.proofs.Tests.{by-cases}
-use Rattle.walklaws.proofs.DisjointSet.{Same}
+use Rattle.walkgraph.proofs.DisjointSet.{Same}
 use Rattle.walklaws.proofs.SearchTurns.{Turn, Push, push-room, seed-turn, join-turn, turn-over}
 use Rattle.walklaws.proofs.SearchEnd.{Adj, Near, adj-over, near-over}
 use Rattle.disjoint.specs.Forest.{of}

@@ -11,7 +11,7 @@ use lib.ListN.{length, set, length-set}
 use lib.Seq.{getD-set-same, getD-set-other}
 use Rattle.walkgraph.proofs.Tests.{by-cases, and-left, and-right, and-pair}
 use Rattle.walkgraph.proofs.Places.{flat-lt}
-use Rattle.walklaws.proofs.DisjointSet.{Same}
+use Rattle.walkgraph.proofs.DisjointSet.{Same}
 use Rattle.walklaws.proofs.SearchTurns.{Turn, Push, push-room, step-turn, join-turn, turn-over}
 use Rattle.walklaws.proofs.SearchEnd.{Adj, Near, near-step, near-linked, adj-over, near-over, linked-over}
 use Rattle.disjoint.specs.Forest.{of, Forest}

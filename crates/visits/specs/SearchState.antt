@@ -6,7 +6,7 @@ use Prim.Native.Nat.{ℕ, _+_, _*_, _/_, _%_, _≤_, _<_}
 use lib.Dec.{T, ltb}
 use lib.ListN.{length}
 use Rattle.walkgraph.specs.Links.{Linked}
-use Rattle.walklaws.proofs.DisjointSet.{Same}
+use Rattle.walkgraph.proofs.DisjointSet.{Same}
 use Rattle.walklaws.proofs.SearchTurns.{State, Turn}
 use Rattle.walklaws.proofs.SearchEnd.{Adj, Near}
 use Rattle.disjoint.specs.Forest.{of, Forest}

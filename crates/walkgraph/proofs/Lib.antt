@@ -1,4 +1,4 @@
--- The mathematics of the walk graph that its definitions are tried by: walks, windows, sweeps and their count, access cells, links and numbering.
+-- The mathematics of the walk graph that its definitions are tried by: walks, windows, sweeps and their count, access cells, links, the disjoint set and numbering.
 pub mod Tests
 pub mod Lists
 pub mod Signed
@@ -16,6 +16,9 @@ pub mod RelaxedRow
 pub mod Sweeps
 pub mod Count
 pub mod LinkSearch
+pub mod Tally
+pub mod DisjointSet
+pub mod Ranks
 pub mod Numbering
 pub mod FieldNumbers
 pub mod AccessList

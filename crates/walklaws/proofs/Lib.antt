@@ -1,15 +1,12 @@
--- The field call and its promise, skipped rows and row intervals, the two-sided search, the disjoint set, numbering, and what the other promises determine.
+-- The field call and its promise, skipped rows and row intervals, the two-sided search, numbering, and what the other promises determine.
 pub mod Consecutive
 pub mod Intervals
 pub mod Skipping
 pub mod OnMap
 pub mod Maps
 pub mod FieldCall
-pub mod Tally
 pub mod SearchTurns
 pub mod SearchEnd
-pub mod DisjointSet
-pub mod Ranks
 pub mod NumberingMade
 pub mod Readings
 pub mod Promises

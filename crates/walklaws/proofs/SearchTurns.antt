@@ -7,7 +7,7 @@ use native.Mathlib.Decide.{decLe, ℕ-discrete}
 use native.Mathlib.Omega.{arith}
 use lib.Dec.{T, T-not}
 use Rattle.walkgraph.proofs.Tests.{by-cases}
-use Rattle.walklaws.proofs.Tally.{tally, tally-le, tally-flip, tally-lt}
+use Rattle.walkgraph.proofs.Tally.{tally, tally-le, tally-flip, tally-lt}
 
 -- a state of the search: which cells are labelled, by which resource and how deep; the queue, its head and its tail
 pub record State : Type 0 where

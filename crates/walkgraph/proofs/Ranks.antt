@@ -7,9 +7,9 @@ use native.Mathlib.Decide.{decLe, ℕ-discrete}
 use native.Mathlib.Omega.{arith}
 use lib.Dec.{T, eqb, eqb→eq, eqb-refl, T-not}
 use lib.Pow.{pow-mono}
 use Rattle.walkgraph.proofs.Tests.{by-cases}
-use Rattle.walklaws.proofs.Tally.{tally, tally-le, tally-mono, tally-sum}
-use Rattle.walklaws.proofs.DisjointSet.{Root, Ranked, link-moved, link-kept}
+use Rattle.walkgraph.proofs.Tally.{tally, tally-le, tally-mono, tally-sum}
+use Rattle.walkgraph.proofs.DisjointSet.{Root, Ranked, link-moved, link-kept}
 
 eq-eqb : (m n : ℕ) → m ≡ n → T (eqb m n)
 eq-eqb m n e = rw e (eqb-refl n)
