@@ -1,7 +1,7 @@
 // The public call: the access cells of many rectangles, judged 1, 3, 4, 7.
 use crate::order;
 use judge::verdict::Verdict;
-use manyrectangles::all;
+use rectanglelists;
 ghost use Rattle.accesslists.specs.AccessListsPromise.{AccessListsPromise};
 ghost use Rattle.manyrectangles.specs.Listing.{lent};
 ghost use Rattle.accesslists.specs.Answers.{answerOf};
@@ -28,7 +28,7 @@ pub fn access_lists(
     if let Verdict::Refused { number, place } = verdict {
         return Answer::Refused { number, place };
     }
-    let count = all::list_all(
+    let count = rectanglelists::list_all(
         cells,
         rectangles,
         width as usize,

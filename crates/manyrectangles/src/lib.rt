@@ -1,3 +1,3 @@
-// The access cells of many rectangles: counted, and listed one after another with an end for each.
+// The access cells of many rectangles: counted, and those of one of them listed behind the others.
 pub mod all;
 pub mod one;

@@ -1,15 +1,15 @@
--- `manyrectangles::all::list_all`: the access cells of the rectangles that the loop passed are listed, and so are their ends.
+-- `rectanglelists::list_all`: the access cells of the rectangles that the loop passed are listed, and so are their ends.
 use mathlib.Core.Path.{_≡_}
 use Prim.Native.Nat.{_+_, _-_, _/_, _≤_}
 use native.Mathlib.Omega.{arith}
 use lib.ListN.{length}
 use Rattle.ringlists.specs.Lists.{Listed}
 use Rattle.ringlists.proofs.Listing.{listed-none, listed-more, listed-length}
 use Rattle.manyrectangles.specs.AllCells.{cellsOf, allCells, endsOf}
 use Rattle.manyrectangles.proofs.AllCells.{all-none, all-more, all-length, all-up, all-most, ends-none}
 use Rattle.manyrectangles.proofs.Listing.{end-listed, all-listed}
-use Rattle.manyrectangles.proofs.all.list_all.Statement.{statement}
-use Rattle.manyrectangles.proofs.all.list_all.Tie as tie
+use Rattle.rectanglelists.proofs.list_all.Statement.{statement}
+use Rattle.rectanglelists.proofs.list_all.Tie as tie
 
 abbrev Inv-loop : tie.InvT-loop
 Inv-loop cells rectangles width height indices₀ ends₀ count used₀ k₀ indices ends used k =
