@@ -1,12 +1,13 @@
 -- `run::sweep`: after some turns.
 use mathlib.Core.Path.{_≡_, refl, _∙_}
 use mathlib.Core.Bool.{false}
-use Prim.Native.Nat.{_-_, _≤_}
+use Prim.Native.Nat.{_+_, _-_, _^_, _≤_, _<_}
 use native.Mathlib.Omega.{arith}
 use lib.ListN.{length}
 use Rattle.sweep.specs.Sweeps.{Turns, none}
 use Rattle.row.specs.Buffers.{groundOf, stateOf}
 use Rattle.sweep.proofs.Runs.{visit-fits, turns-more}
+use Rattle.ways.proofs.Passes.{cell-next, cell-fits, cell-nearer}
 use Rattle.sweep.proofs.run.sweep.Statement.{statement}
 use Rattle.sweep.proofs.run.sweep.Tie as tie
 
@@ -18,6 +19,9 @@ Inv-loop lanes₀ flags rows versions₀ pulled₀ lane-count stride height down
 abbrev μ-loop : tie.MeasureT-loop
 μ-loop lanes₀ flags rows versions₀ pulled₀ lane-count stride height down fresh gates changed₀ turn₀ lanes versions pulled changed turn = height - turn
 
+tall : (c : tie.Start Inv-loop μ-loop) → c .args .height + 1 < 2 ^ 64
+tall c = omega arith
+
 gates-requires : tie.Need-gates-requires Inv-loop μ-loop
 gates-requires c κs = tt
 
@@ -25,10 +29,10 @@ loop-holds : tie.Need-loop-holds Inv-loop μ-loop
 loop-holds c = (omega arith, refl, refl, refl, none)
 
 row-at-requires : tie.Need-row-at-requires Inv-loop μ-loop
-row-at-requires c κs = omega (arith, c .before .before .before .before .before .before .before .before .before .before .before)
+row-at-requires c κs = (c .before .before .before .before .loop-test .taken, tall (c .before .before .before .before .before .before .before .before .before .before .before))
 
 feed-at-requires : tie.Need-feed-at-requires Inv-loop μ-loop
-feed-at-requires c κs = omega (arith, c .before .before .before .before .before .before .before .before .before .before .before .before)
+feed-at-requires c κs = (c .before .before .before .before .before .loop-test .taken, tall (c .before .before .before .before .before .before .before .before .before .before .before .before))
 
 visit-requires : tie.Need-visit-requires Inv-loop μ-loop
 visit-requires c κs =
@@ -37,16 +41,16 @@ visit-requires c κs =
     (c .before .before .before .before .before .before .before .before .gates .ensures, rw (c .before .row-at .ensures, c .feed-at .ensures, i .1, i .2, i .3) (visit-fits (s .pre .0) _ (s .pre .1) (s .args .down) (c .before .before .before .before .before .before .before .loop .turn) (c .before .before .before .before .before .before .loop-test .taken)))
 
 add-turn : tie.Need-add-turn Inv-loop μ-loop
-add-turn c = omega (arith, c .before .before .before .before .before .before .before .before .before .before .before .before)
+add-turn c = cell-fits _ _ (c .before .before .before .before .before .before .before .before .before .before .before .before .loop-test .taken) (c .before .before .before .before .before .before .before .before .before .before .before .before .before .before .before .before .before .before .before .fits .height)
 
 loop-less : tie.Need-loop-less Inv-loop μ-loop
-loop-less c = omega (arith, c .before .before .before .before .before .before .before .before .before .before .before .before)
+loop-less c = cell-nearer _ _ (c .before .before .before .before .before .before .before .before .before .before .before .before .loop-test .taken)
 
 loop-again : tie.Need-loop-again Inv-loop μ-loop
 loop-again c =
     let i = c .before .before .before .before .before .before .before .before .before .before .before .before .before .loop .inv in
     let v = c .before .before .before .before .before .visit in (
-      omega (arith, c .before .before .before .before .before .before .before .before .before .before .before .before),
+      cell-next _ _ (c .before .before .before .before .before .before .before .before .before .before .before .before .loop-test .taken),
       v .kept .0 ∙ i .1,
       v .kept .1 .1 .1 .0 ∙ i .2,
       v .kept .1 .1 .1 .1 .0 ∙ i .3,
@@ -54,13 +58,13 @@ loop-again c =
     )
 
 same-length : tie.Need-same-length Inv-loop μ-loop
-same-length c = omega arith
+same-length c = c .before .loop .inv .1
 
 same-length-2 : tie.Need-same-length-2 Inv-loop μ-loop
-same-length-2 c = omega arith
+same-length-2 c = c .before .loop .inv .2
 
 same-length-3 : tie.Need-same-length-3 Inv-loop μ-loop
-same-length-3 c = omega arith
+same-length-3 c = c .before .loop .inv .3
 
 returns : tie.Need-returns Inv-loop μ-loop
 returns c =
