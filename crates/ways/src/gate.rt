@@ -35,19 +35,21 @@ pub fn turned(flag: u8, down: bool) -> u8
     if down { flag } else { flag / 4 }
 }
 
-// Where the gates of a flag byte start: of walking, and of the diagonals from the left and from the right.
+// Where the gate of walking starts in the table, by the flag byte.
 pub fn walk_gate(flag: u8) -> usize
     ensures { λ r. ⌜ r ≡ flag % 2 * 8 ⌝ }
 {
     flag as usize % 2 * 8
 }
 
+// Where that of the diagonal from the left starts.
 pub fn west_gate(flag: u8) -> usize
     ensures { λ r. ⌜ r ≡ flag / 2 % 2 * 8 ⌝ }
 {
     flag as usize / 2 % 2 * 8
 }
 
+// Where that of the diagonal from the right starts.
 pub fn east_gate(flag: u8) -> usize
     ensures { λ r. ⌜ r ≡ flag / 4 % 2 * 8 ⌝ }
 {
