@@ -1,5 +1,5 @@
 -- How long numbers and lines are at most.
-use mathlib.Core.List.{List, [], _∷_, _++_}
+use mathlib.Core.List.{List, [], _∷_}
 use Prim.Native.Nat.{ℕ, zero, suc, _+_, _*_, _/_, _≤_, _<_, _^_}
 use native.Mathlib.Nat.{pow-suc}
 use native.Mathlib.Omega.{arith}
@@ -8,7 +8,6 @@ use lib.IntN.{pos}
 use lib.ListN.{length, length-append}
 use Rattle.decimal.specs.Numbers.{digitsOf, decimalOf}
 use Rattle.decimal.proofs.Digits.{by-cases, length-small, length-large}
-use Rattle.page.specs.Puts.{Room}
 use Rattle.page.specs.Lines.{numberThen, twoThen, windowWord, windowLine, sweepsWord, sweepsLine, cellsWord, cellsLine, groupsWord, groupsLine, wordLine, refusedWord, refusalLine}
 
 -- a number below 10 ^ k has k digits at most
@@ -58,7 +57,3 @@ module _ (k n : ℕ) where
 pub refusal-most : (k number place : ℕ) → 0 < k → number < 10 ^ k → place < 10 ^ k → length (refusalLine number place) ≤ 8 + 2 * (k + 1)
 unfolding refusedWord refusalLine
 refusal-most k number place h p q = omega (arith, two-most k number place 10 h p q)
-
--- a refusal's two numbers are u32: 30 bytes are enough
-pub refusal-room : (number place at : ℕ) (page : List ℕ) → number < 4294967296 → place < 4294967296 → at + 30 ≤ length page → Room (refusalLine number place) at page
-refusal-room number place at page p q h = record { room = omega (arith, refusal-most 10 number place (omega arith) (omega arith) (omega arith)) }

@@ -11,14 +11,6 @@ use lib.Seq.{getD-set-same, getD-set-other}
 use Rattle.walkgraph.proofs.Tests.{by-cases}
 use Rattle.picks.specs.Picks.{one, Picked, Kept, left-out, put}
 
-pub one-yes : (b : Bool) → b ≡ true → one b ≡ 1
-unfolding one
-one-yes b e = rw e
-
-pub one-no : (b : Bool) → b ≡ false → one b ≡ 0
-unfolding one
-one-no b e = rw e
-
 pub one-le : (b : Bool) {r : ℕ} → r ≡ one b → r ≤ 1
 unfolding one
 one-le true e = omega arith

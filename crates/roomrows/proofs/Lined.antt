@@ -4,7 +4,7 @@ use mathlib.Core.Bool.{true, false}
 use mathlib.Core.List.{List, [], _∷_, _++_, map, append-assoc, append-nil}
 use Prim.Native.Nat.{ℕ, zero, suc, _+_, _-_, _≤_, _<_}
 use native.Mathlib.Omega.{arith}
-use lib.ListN.{length, getD, take, drop, replicate, length-replicate, getD-replicate, length-append, length-drop, length-map}
+use lib.ListN.{length, getD, take, drop, replicate, length-replicate, getD-replicate, length-append, length-map}
 use lib.Seq.{sets, length-sets, getD-drop, getD-append-seam}
 use Rattle.decimal.proofs.Digits.{clash}
 use Rattle.textlines.specs.Lines.{textOf, LineAt, ends, unended, FindsLine, line, none}

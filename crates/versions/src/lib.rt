@@ -7,7 +7,7 @@ ghost use Prim.Native.Nat.{ℕ, _+_, _-_, _≤_, min};
 ghost use lib.ListN.{length};
 ghost use Rattle.walkgraph.specs.Lists.{placed};
 ghost use Rattle.window.specs.Fills.{entries};
-ghost use Rattle.versions.specs.Versions.{never, VersionBuffers, BeforeSweeps, AfterSweeps};
+ghost use Rattle.versions.specs.Versions.{VersionBuffers, BeforeSweeps, AfterSweeps};
 
 // Writes one number to count entries from an index on.
 pub fn set(numbers: &mut [u32], from: usize, count: usize, number: u32)
