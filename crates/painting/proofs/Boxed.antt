@@ -15,7 +15,7 @@ use Rattle.walkgraph.proofs.Places.{flat-lt}
 use Rattle.window.specs.declared.record.Window.{Window}
 use Rattle.window.specs.Fills.{zeros, rowsPlaced}
 use Rattle.paintrows.specs.PaintRows.{PaintRows}
-use Rattle.painting.specs.Painting.{Paints, Pixels, fromCell, pastCell, boxPainted, blockersPainted}
+use Rattle.painting.specs.Painting.{Paints, Pixels, fromCell, pastCell, boxPainted, blockerPainted, blockersPainted}
 
 clamp-most : (limit : ℕ) (z : ℤ) → clamp limit z ≤ limit
 unfolding clamp
@@ -27,38 +27,6 @@ clamped size z h e = omega (arith, clamp-most (8 * size) z)
 
 product-most : (a s : ℕ) → a ≤ 1025 → s ≤ 1026 → a * s ≤ 1051650
 product-most a s p q = mul-le-mul p q
-
--- the four places of rectangle k of n numbers, and their bytes
-pub record FourPlaces (k n : ℕ) : Type 0 where
-  pub first : Fits w64 (4 * k)
-  pub first-bytes : Fits w64 (4 * k * 4)
-  pub first-in : 4 * k < n
-  pub second : Fits w64 (4 * k + 1)
-  pub second-bytes : Fits w64 ((4 * k + 1) * 4)
-  pub second-in : 4 * k + 1 < n
-  pub third : Fits w64 (4 * k + 2)
-  pub third-bytes : Fits w64 ((4 * k + 2) * 4)
-  pub third-in : 4 * k + 2 < n
-  pub fourth : Fits w64 (4 * k + 3)
-  pub fourth-bytes : Fits w64 ((4 * k + 3) * 4)
-  pub fourth-in : 4 * k + 3 < n
-
-pub four-places : (k n : ℕ) → 4 * k + 3 < n → Fits w64 (n * 4) → FourPlaces k n
-four-places k n h b =
-    record {
-      first = omega (arith, h, b);
-      first-bytes = omega (arith, h, b);
-      first-in = omega (arith, h);
-      second = omega (arith, h, b);
-      second-bytes = omega (arith, h, b);
-      second-in = omega (arith, h);
-      third = omega (arith, h, b);
-      third-bytes = omega (arith, h, b);
-      third-in = omega (arith, h);
-      fourth = omega (arith, h, b);
-      fourth-bytes = omega (arith, h, b);
-      fourth-in = h;
-    }
 
 -- the first painted cell of a box: its numbers fit their type, and no difference stops at 0
 pub record BoxNumbers (w : Window) (x0 y0 s : ℕ) : Type 0 where
@@ -130,14 +98,18 @@ module _ (w : Window) (left top right bottom : ℕ) (before : ℕ → ℕ) where
   unfolding boxPainted
   box-done after s x0 y0 x1 y1 h k e f g i j l = rw (lt-ltb left right h, lt-ltb top bottom k) (rw (e, f, g, i, j) at l)
 
-module _ (w : Window) (width height : ℕ) (blockers : List ℤ) (before : ℕ → ℕ) where
-  pub blockers-none : before ≡ blockersPainted w width height blockers 0 before
-  unfolding blockersPainted
-  blockers-none = refl
+module _ (w : Window) (width height : ℕ) (blockers : List ℤ) where
+  pub blocker-done : (k : ℕ) (before after : ℕ → ℕ) (left top right bottom : ℕ) → left ≡ clamp (8 * width) (getD blockers (4 * k) (pos 0)) →
+      top ≡ clamp (8 * height) (getD blockers (4 * k + 1) (pos 0)) → right ≡ clamp (8 * width) (getD blockers (4 * k + 2) (pos 0)) →
+      bottom ≡ clamp (8 * height) (getD blockers (4 * k + 3) (pos 0)) → after ≡ boxPainted w left top right bottom before → after ≡ blockerPainted w width height blockers k before
+  unfolding blockerPainted rectangle
+  blocker-done k before after left top right bottom e f g h i = rw (e, f, g, h) at i
 
-  pub blockers-more : (n : ℕ) (now after : ℕ → ℕ) (left top right bottom : ℕ) → left ≡ clamp (8 * width) (getD blockers (4 * n) (pos 0)) →
-      top ≡ clamp (8 * height) (getD blockers (4 * n + 1) (pos 0)) → right ≡ clamp (8 * width) (getD blockers (4 * n + 2) (pos 0)) →
-      bottom ≡ clamp (8 * height) (getD blockers (4 * n + 3) (pos 0)) → now ≡ blockersPainted w width height blockers n before →
-      after ≡ boxPainted w left top right bottom now → after ≡ blockersPainted w width height blockers (n + 1) before
-  unfolding blockersPainted rectangle
-  blockers-more n now after left top right bottom e f g h i j = rw (add-one n) (rw (e, f, g, h, i) at j)
+  pub blockers-none : (before : ℕ → ℕ) → before ≡ blockersPainted w width height blockers 0 before
+  unfolding blockersPainted
+  blockers-none before = refl
+
+  pub blockers-more : (before : ℕ → ℕ) (n : ℕ) (now after : ℕ → ℕ) → now ≡ blockersPainted w width height blockers n before → after ≡ blockerPainted w width height blockers n now →
+      after ≡ blockersPainted w width height blockers (n + 1) before
+  unfolding blockersPainted
+  blockers-more before n now after e f = rw (add-one n) (rw e at f)

@@ -12,7 +12,7 @@ use Rattle.walkgraph.specs.Painting.{rectangle, spans, covers, covered}
 use Rattle.walkgraph.proofs.Tests.{by-cases, decT, and-left, and-right, and-pair, cond-true, cond-false}
 use Rattle.window.specs.declared.record.Window.{Window}
 use Rattle.window.specs.Fills.{zeros, rowsPlaced}
-use Rattle.painting.specs.Painting.{fromCell, pastCell, boxPainted, blockersPainted}
+use Rattle.painting.specs.Painting.{fromCell, pastCell, boxPainted, blockerPainted, blockersPainted}
 use Rattle.painting.proofs.Boxed.{box-thin, box-flat}
 use Rattle.window.proofs.Places.{cell-in, cell-out, cell-past}
 
@@ -137,7 +137,7 @@ module _ (w : Window) (width height : ℕ) (blockers : List ℤ) (before : ℕ �
   pub painted-in : (n x y : ℕ) → 1 ≤ x → x ≤ w .width → 1 ≤ y → y ≤ w .height →
       blockersPainted w width height blockers n before (y * (w .width + 2) + x) ≡
       cond (covered width height blockers n (w .left + x - 1) (w .top + y - 1)) 0 (before (y * (w .width + 2) + x))
-  unfolding blockersPainted covered covers
+  unfolding blockersPainted blockerPainted covered covers
   painted-in zero x y e f g h = refl
   painted-in (suc n) x y e f g h =
       box-in w _ _ _ _ (blockersPainted w width height blockers n before) x y e f g h
@@ -145,11 +145,11 @@ module _ (w : Window) (width height : ℕ) (blockers : List ℤ) (before : ℕ �
 
   pub painted-out : (n x y : ℕ) → x < w .width + 2 → ¬ ((1 ≤ x) × (x ≤ w .width) × (1 ≤ y) × (y ≤ w .height)) →
       blockersPainted w width height blockers n before (y * (w .width + 2) + x) ≡ before (y * (w .width + 2) + x)
-  unfolding blockersPainted
+  unfolding blockersPainted blockerPainted
   painted-out zero x y h k = refl
   painted-out (suc n) x y h k = box-out w _ _ _ _ (blockersPainted w width height blockers n before) x y h k ∙ painted-out n x y h k
 
   pub painted-past : (n i : ℕ) → (w .height + 2) * (w .width + 2) ≤ i → blockersPainted w width height blockers n before i ≡ before i
-  unfolding blockersPainted
+  unfolding blockersPainted blockerPainted
   painted-past zero i h = refl
   painted-past (suc n) i h = box-past w _ _ _ _ (blockersPainted w width height blockers n before) i h ∙ painted-past n i h

@@ -38,10 +38,12 @@ boxPainted w left top right bottom before =
     (rowsPlaced before ((y - w .top + 1) * (w .width + 2) + (x - w .left + 1)) (w .width + 2) (pastCell bottom (w .top) (w .height) - y) (pastCell right (w .left) (w .width) - x) (λ y. zeros))
     before
 
--- and after the first n blockers are painted, on a map of width by height
+-- and after blocker k is painted, on a map of width by height
+unfoldable pub blockerPainted : Window → ℕ → ℕ → List ℤ → ℕ → (ℕ → ℕ) → ℕ → ℕ
+blockerPainted w width height blockers k before =
+    let r = rectangle blockers k in boxPainted w (clamp (8 * width) (r .left)) (clamp (8 * height) (r .top)) (clamp (8 * width) (r .right)) (clamp (8 * height) (r .bottom)) before
+
+-- and after the first n blockers are
 unfoldable pub blockersPainted : Window → ℕ → ℕ → List ℤ → ℕ → (ℕ → ℕ) → ℕ → ℕ
 blockersPainted w width height blockers zero before = before
-blockersPainted w width height blockers (suc n) before =
-    let r = rectangle blockers n in
-    boxPainted w (clamp (8 * width) (r .left)) (clamp (8 * height) (r .top)) (clamp (8 * width) (r .right)) (clamp (8 * height) (r .bottom))
-    (blockersPainted w width height blockers n before)
+blockersPainted w width height blockers (suc n) before = blockerPainted w width height blockers n (blockersPainted w width height blockers n before)

@@ -4,10 +4,10 @@ use paintrows;
 use window::record;
 use window::record::Window;
 ghost use mathlib.Core.Path.{_≡_};
-ghost use Prim.Native.Nat.{_/_, _≤_};
+ghost use Prim.Native.Nat.{_+_, _*_, _/_, _≤_};
 ghost use lib.ListN.{length};
 ghost use Rattle.window.specs.Fills.{entries};
-ghost use Rattle.painting.specs.Painting.{Paints, Pixels, boxPainted, blockersPainted};
+ghost use Rattle.painting.specs.Painting.{Paints, Pixels, boxPainted, blockerPainted, blockersPainted};
 
 // Paints the cells of a rectangle of clamped pixels that lie in the window.
 pub fn paint_box(
@@ -36,19 +36,35 @@ pub fn paint_box(
     paintrows::paint_rows(walk, stride, first, edge::past(y0, y1), edge::past(x0, x1));
 }
 
+// Paints blocker k, on a map of width by height.
+fn paint_blocker(
+    walk: &mut [u8],
+    blockers: &[i32],
+    k: usize,
+    window: Window,
+    width: usize,
+    height: usize,
+)
+    requires { ⌜ Paints window (length (now walk)) × (width ≤ 1024) × (height ≤ 1024) × (4 * k + 4 ≤ length (now blockers)) ⌝ }
+    ensures { λ _. ⌜ entries (now (walk .exit)) ≡ blockerPainted window width height (now (blockers .entry)) k (entries (now (walk .entry))) ⌝ }
+{
+    let at = 4 * k;
+    paint_box(
+        walk,
+        window,
+        edge::clamp(blockers[at], width),
+        edge::clamp(blockers[at + 1], height),
+        edge::clamp(blockers[at + 2], width),
+        edge::clamp(blockers[at + 3], height),
+    );
+}
+
 // Paints all blockers, on a map of width by height.
 pub fn paint(walk: &mut [u8], blockers: &[i32], window: Window, width: usize, height: usize)
     requires { ⌜ Paints window (length (now walk)) × (width ≤ 1024) × (height ≤ 1024) ⌝ }
     ensures { λ _. ⌜ entries (now (walk .exit)) ≡ blockersPainted window width height (now (blockers .entry)) (length (now (blockers .entry)) / 4) (entries (now (walk .entry))) ⌝ }
 {
     for k in 0..blockers.len() / 4 {
-        paint_box(
-            walk,
-            window,
-            edge::clamp(blockers[4 * k], width),
-            edge::clamp(blockers[4 * k + 1], height),
-            edge::clamp(blockers[4 * k + 2], width),
-            edge::clamp(blockers[4 * k + 3], height),
-        );
+        paint_blocker(walk, blockers, k, window, width, height);
     }
 }
