@@ -4,6 +4,7 @@ use painting;
 use paintrows;
 use plan::site::Site;
 use start;
+use unreachable;
 use walkbytes;
 use window::record;
 ghost use mathlib.Core.Path.{_≡_};
@@ -45,7 +46,7 @@ pub fn begin(site: Site, resources: &[i32], lanes: &mut [i16], walk: &[u8], rows
     let sources = site.sources;
     let targets = site.targets;
     rows::write_rows(rows, window, sources, targets);
-    startcells::unreachable(lanes, record::padded(window) * window.lanes);
+    unreachable::fill(lanes, record::padded(window) * window.lanes);
     start::start_lanes(
         lanes,
         walk,

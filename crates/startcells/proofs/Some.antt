@@ -1,5 +1,5 @@
 -- Searches below a number, and levels that were hit once or more.
-use mathlib.Core.Path.{_≡_, refl, sym, _∙_, ap}
+use mathlib.Core.Path.{_≡_, refl, _∙_, ap}
 use mathlib.Core.Logic.{⊎-elim}
 use mathlib.Core.Bool.{Bool, true, false, _&&_, _||_}
 use mathlib.Core.List.{List}
@@ -12,8 +12,6 @@ use lib.ListN.{length, set}
 use lib.Seq.{getD-set-same, getD-set-other}
 use lib.Dec.{T, eqb}
 use borrow.Author.Tests.{eq-eqb, ne-eqb}
-use Rattle.walkgraph.specs.Lists.{placed}
-use Rattle.walkgraph.proofs.Lists.{placed-in, placed-above, by-place}
 use Rattle.walkgraph.proofs.Tests.{by-cases, or-cases, or-left, or-right}
 use Rattle.lane.specs.Levels.{level, levelAt, startedLevel}
 use Rattle.startcells.specs.Hits.{someBelow, startedLevels}
@@ -71,21 +69,3 @@ started-set d i v hit b e = λ k j. same j k
         by-cases (ℕ-discrete j i)
         (λ q. rw (q, eq-eqb i i refl) (ap level (getD-set-same d i v (pos 0) b) ∙ e))
         (λ q. rw (ne-eqb j i q) (ap level (getD-set-other d i j v (pos 0) q)))
-
-pub filled-set : (d : List ℤ) (F : ℕ → ℕ) (n : ℕ) (v : ℤ) (top : ℕ) → n < length d → level v ≡ top → levelAt d ≡ placed F 0 n (λ k. top) → levelAt (set d n v) ≡ placed F 0 (n + 1) (λ k. top)
-filled-set d F n v top b e h = λ k j. same j k
-  where
-    inside : (n j : ℕ) → j < n → placed F 0 n (λ k. top) j ≡ top
-    inside n j q = let z : 0 + j ≡ j = omega arith in rw z at (placed-in F 0 n (λ k. top) j q)
-
-    same : (j : ℕ) → levelAt (set d n v) j ≡ placed F 0 (n + 1) (λ k. top) j
-    same j =
-        by-place (λ j. levelAt (set d n v) j ≡ placed F 0 (n + 1) (λ k. top) j) n 1 j
-        (λ q. ap level (getD-set-other d n j v (pos 0) (λ r. omega arith)) ∙ ap (λ (f : ℕ → ℕ). f j) h ∙ inside n j q ∙ sym (inside (n + 1) j (omega arith)))
-        (λ i q.
-        let z : n + i ≡ n = omega arith in
-        rw z (ap level (getD-set-same d n v (pos 0) b) ∙ e ∙ sym (inside (n + 1) n (omega arith))))
-        (λ q. ap level (getD-set-other d n j v (pos 0) (λ r. omega arith)) ∙ ap (λ (f : ℕ → ℕ). f j) h ∙ placed-above F 0 n (λ k. top) j (omega arith) ∙ sym (placed-above F 0 (n + 1) (λ k. top) j (omega arith)))
-
-pub filled-none : (F : ℕ → ℕ) (top : ℕ) → F ≡ placed F 0 0 (λ k. top)
-filled-none F top = λ i j. sym (placed-above F 0 0 (λ k. top) j (omega arith)) i

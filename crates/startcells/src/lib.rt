@@ -1,24 +1,12 @@
-// The lanes of cells before the first sweep: unreachable, or half cost 0 in the walkable cells of a stretch that are not in the body.
+// The lanes that start: half cost 0 in the walkable cells of a stretch that are not in the body.
 use cells::boxes::CellBox;
 use lane::value;
 use ringcell;
 ghost use mathlib.Core.Path.{_≡_};
-ghost use Prim.Native.Nat.{ℕ, _≤_};
 ghost use lib.ListN.{length};
-ghost use Rattle.walkgraph.specs.Lists.{placed};
 ghost use Rattle.lane.specs.Levels.{levelAt};
 ghost use Rattle.cells.specs.Boxes.{boxOf};
 ghost use Rattle.startcells.specs.Hits.{startedLevels, cellsHit, Cells};
-
-// Makes the first count lanes unreachable.
-pub fn unreachable(lanes: &mut [i16], count: usize)
-    requires { ⌜ count ≤ length (now lanes) ⌝ }
-    ensures { λ _. ⌜ levelAt (now (lanes .exit)) ≡ placed (levelAt (now (lanes .entry))) 0 count (λ (k : ℕ). 65535) ⌝ }
-{
-    for k in 0..count {
-        lanes[k] = 32767;
-    }
-}
 
 // Starts one lane in count cells of row y, from column x on; place is that of the first among the window's cells.
 pub fn start_cells(

@@ -22,14 +22,14 @@ padded-requires c κs =
     let z = limits _ _ _ _ (g .on-map) _ (g .over) in
     (z .width, z .height)
 
-mul-unreachable : tie.Need-mul-unreachable
-mul-unreachable c =
+mul-fill : tie.Need-mul-fill
+mul-fill c =
     let g = c .before .before .before .before .before .before .before .before .before .before .before .before .pre .site in
     let q : c .before .padded .result * c .before .before .before .before .before .before .before .before .before .before .before .before .args .site .window .lanes ≤ 16842816 = rw (c .before .padded .ensures) (lanes-small _ _ _ _ (g .on-map) _ (g .over) (g .count)) in
     record { fits = omega arith }
 
-unreachable-requires : tie.Need-unreachable-requires
-unreachable-requires c κs = rw (c .before .padded .ensures) (c .before .before .before .before .before .before .before .before .before .before .before .before .pre .lanes-in)
+fill-requires : tie.Need-fill-requires
+fill-requires c κs = rw (c .before .padded .ensures) (c .before .before .before .before .before .before .before .before .before .before .before .before .pre .lanes-in)
 
 start-lanes-requires : tie.Need-start-lanes-requires
 start-lanes-requires c κs =
@@ -49,7 +49,7 @@ returns c =
     let s = a .site in
     let n = c .before .before .before .before .before .before .before .padded in
     let hit = lanesHit (s .window) (now (a .walk)) (c .before .before .before .before .before .before .before .before .before .before .before .write-rows .last .0) (s .width) (s .height) (now (a .resources)) (length (now (a .resources)) / 4) in
-    (c .before .before .before .before .before .before .before .before .before .before .before .write-rows .ensures, levels-begun (s .window) (levelAt (now (a .lanes))) hit (n .result) (n .ensures) (c .before .before .before .before .before .unreachable .ensures) (c .before .start-lanes .ensures))
+    (c .before .before .before .before .before .before .before .before .before .before .before .write-rows .ensures, levels-begun (s .window) (levelAt (now (a .lanes))) hit (n .result) (n .ensures) (c .before .before .before .before .before .fill .ensures) (c .before .start-lanes .ensures))
 
 pub begin-spec : {M : Type 1} → statement M
 begin-spec =
@@ -57,8 +57,8 @@ begin-spec =
     (tie.spec
     write-rows-requires
     padded-requires
-    mul-unreachable
-    unreachable-requires
+    mul-fill
+    fill-requires
     start-lanes-requires
     same-length
     same-length-2

@@ -1,4 +1,4 @@
--- `startcells::unreachable`: the lanes that the loop passed are unreachable, and the others stay.
+-- `unreachable::fill`: the lanes that the loop passed are unreachable, and the others stay.
 use mathlib.Core.Path.{_≡_, refl}
 use Prim.Native.Nat.{ℕ, _-_, _≤_}
 use native.Mathlib.Omega.{arith}
@@ -6,9 +6,9 @@ use lib.ListN.{length, length-set}
 use denote.Ref.{now}
 use Rattle.walkgraph.specs.Lists.{placed}
 use Rattle.lane.specs.Levels.{levelAt}
-use Rattle.startcells.proofs.Some.{filled-none, filled-set}
-use Rattle.startcells.proofs.unreachable.Statement.{statement}
-use Rattle.startcells.proofs.unreachable.Tie as tie
+use Rattle.unreachable.proofs.Filled.{filled-none, filled-set}
+use Rattle.unreachable.proofs.fill.Statement.{statement}
+use Rattle.unreachable.proofs.fill.Tie as tie
 
 abbrev Inv-loop : tie.InvT-loop
 Inv-loop lanes₀ count k₀ lanes k = (k ≤ count) × (length lanes ≡ length lanes₀) × (levelAt lanes ≡ placed (levelAt lanes₀) 0 k (λ (i : ℕ). 65535))
@@ -46,5 +46,5 @@ returns c =
     let e : b .loop .k ≡ b .before .args .count = omega arith in
     rw e at (b .loop .inv .2)
 
-pub unreachable-spec : {M : Type 1} → statement M
-unreachable-spec = tie.close (tie.spec Inv-loop μ-loop loop-holds mul-lanes slice-set-of-lanes add-k loop-less loop-again same-length returns)
+pub fill-spec : {M : Type 1} → statement M
+fill-spec = tie.close (tie.spec Inv-loop μ-loop loop-holds mul-lanes slice-set-of-lanes add-k loop-less loop-again same-length returns)

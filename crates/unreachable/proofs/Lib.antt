@@ -1,0 +1,2 @@
+-- The law of lanes made unreachable.
+pub mod Filled
