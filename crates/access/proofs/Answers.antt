@@ -19,10 +19,11 @@ use Rattle.rings.proofs.Sides.{on-map}
 use Rattle.rings.proofs.Sources.{ring-in-map}
 use Rattle.judge.proofs.Accepted.{grid}
 use Rattle.judge.proofs.Judging.{refuses, passes}
-use Rattle.access.specs.declared.call.Answer.{Answer}
+use Rattle.countanswer.specs.declared.Answer.{Answer}
+use Rattle.countanswer.specs.Answers.{listedOf}
 use Rattle.ringruns.specs.Runs.{OnMap}
 use Rattle.ringrows.specs.Rows.{ringPlaces}
-use Rattle.access.specs.Answers.{answerOf, RingListed, short, fits}
+use Rattle.access.specs.Answers.{RingListed, short, fits}
 use Rattle.ringrows.proofs.AccessRuns.{ring-accessed}
 
 module _ (w h : ℕ) (cells : List ℕ) (r : Rectangle) where
@@ -65,8 +66,8 @@ module _ (w h : ℕ) (cells : List ℕ) (r : Rectangle) where
         }
 
     -- ---- refusal 7, or the list
-    answered : {before after : List ℕ} {a : Answer} → RingListed (accessCells w h cells r) before after a → AccessPromise w h cells r before after (answerOf a)
-    unfolding accessVerdict answerOf
+    answered : {before after : List ℕ} {a : Answer} → RingListed (accessCells w h cells r) before after a → AccessPromise w h cells r before after (listedOf a)
+    unfolding accessVerdict listedOf
     answered (short s) = promise.refuses (sym (passes 1 0 good-grid (passes 4 0 good (refuses accepted (lt-ltb _ _ s)))))
     answered (fits s) = promise.lists (sym (passes 1 0 good-grid (passes 4 0 good (passes 7 0 (le-ltb _ _ s) refl))))
 
@@ -78,5 +79,5 @@ module _ (w h : ℕ) (cells : List ℕ) (r : Rectangle) where
       pub found-access : ringPlaces cells w (boxOf ring) (boxOf core) ≡ accessCells w h cells r
       found-access = rw (e .ring, e .body) (ring-accessed w h cells r (ring-on-map .grid) (ring-in-map w h r (on-map w h r good) .tall))
 
-      pub ring-answered : {before after : List ℕ} {a : Answer} → RingListed (ringPlaces cells w (boxOf ring) (boxOf core)) before after a → AccessPromise w h cells r before after (answerOf a)
+      pub ring-answered : {before after : List ℕ} {a : Answer} → RingListed (ringPlaces cells w (boxOf ring) (boxOf core)) before after a → AccessPromise w h cells r before after (listedOf a)
       ring-answered l = answered (rw found-access at l)

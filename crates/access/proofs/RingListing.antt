@@ -6,11 +6,11 @@ use native.Mathlib.Omega.{arith}
 use lib.ListN.{length, drop}
 use lib.Seq.{sets-eq}
 use Rattle.ringlists.specs.Lists.{Listed}
-use Rattle.access.specs.declared.call.Answer.the-variants as answers
+use Rattle.countanswer.specs.declared.Answer.the-variants.{Counted}
 use Rattle.access.specs.Answers.{RingListed, fits}
 
 -- a whole list from the buffer's start on
-pub ring-listed : {p before after : List ℕ} {end : ℕ} → length p ≤ length before → Listed p before 0 after end → RingListed p before after (answers.Listed end)
+pub ring-listed : {p before after : List ℕ} {end : ℕ} → length p ≤ length before → Listed p before 0 after end → RingListed p before after (Counted end)
 ring-listed {p} {before} {after} {end} h l =
     let from-start : 0 + length p ≡ length p = omega arith in
     let all : after ≡ p ++ drop (length p) before = l .buffer ∙ rw from-start at (sets-eq p before 0 (omega arith)) in

@@ -1,2 +1,2 @@
--- What the contracts of this crate speak of: the code's answer as document 01's.
+-- What the contracts of this crate speak of.
 pub mod Answers

@@ -1,5 +1,6 @@
 // The public call: access of a rectangle, judged 1, 4, 7.
 use cells::boxes::CellBox;
+use countanswer::Answer;
 use judge::grid;
 use ringrows::rows;
 use rings::ring;
@@ -10,13 +11,8 @@ ghost use Rattle.cells.specs.Boxes.{boxOf};
 ghost use Rattle.rings.specs.Rings.{corners};
 ghost use Rattle.ringruns.specs.Runs.{OnMap};
 ghost use Rattle.ringrows.specs.Rows.{ringPlaces};
-ghost use Rattle.access.specs.Answers.{answerOf, RingListed};
-
-// A call is refused with the table's number and place, or lists so many access cells.
-pub enum Answer {
-    Refused { number: u32, place: u32 },
-    Listed { count: usize },
-}
+ghost use Rattle.countanswer.specs.Answers.{listedOf};
+ghost use Rattle.access.specs.Answers.{RingListed};
 
 // Lists the walkable cells of a ring, or refuses a buffer that is too short for them.
 pub fn list_ring(
@@ -37,7 +33,7 @@ pub fn list_ring(
         };
     }
     let count = rows::list_rows(cells, ring, body, width, out);
-    Answer::Listed { count }
+    Answer::Counted { count }
 }
 
 // Access of a rectangle: the indices of its access cells by row, then column, and how many there are; or a refusal, and nothing is written.
@@ -51,7 +47,7 @@ pub fn access(
     bottom: i32,
     out: &mut [u32],
 ) -> Answer
-    ensures { λ r. ⌜ AccessPromise width height (now (cells .entry)) (corners left top right bottom) (now (out .entry)) (now (out .exit)) (answerOf r) ⌝ }
+    ensures { λ r. ⌜ AccessPromise width height (now (cells .entry)) (corners left top right bottom) (now (out .entry)) (now (out .exit)) (listedOf r) ⌝ }
 {
     if !grid::grid_ok(width, height, cells) {
         return Answer::Refused {

@@ -1,16 +1,11 @@
 // The public call: the access cells of many rectangles, judged 1, 3, 4, 7.
 use crate::order;
+use countanswer::Answer;
 use judge::verdict::Verdict;
 use rectanglelists;
 ghost use Rattle.accesslists.specs.AccessListsPromise.{AccessListsPromise};
 ghost use Rattle.manyrectangles.specs.Listing.{lent};
-ghost use Rattle.accesslists.specs.Answers.{answerOf};
-
-// A call is refused with the table's number and place, or lists so many access cells.
-pub enum Answer {
-    Refused { number: u32, place: u32 },
-    Listed { count: usize },
-}
+ghost use Rattle.countanswer.specs.Answers.{listedOf};
 
 // The access cells of many rectangles: the indices of those of the first, then of the next, and for each how many stand before the end of its own; or a refusal, and nothing is written.
 pub fn access_lists(
@@ -22,7 +17,7 @@ pub fn access_lists(
     ends: &mut [u32],
 ) -> Answer
     ensures { λ r. ⌜ AccessListsPromise width height (now (cells .entry)) (now (rectangles .entry))
-        (lent (now (indices .entry)) (now (ends .entry))) (lent (now (indices .exit)) (now (ends .exit))) (answerOf r) ⌝ }
+        (lent (now (indices .entry)) (now (ends .entry))) (lent (now (indices .exit)) (now (ends .exit))) (listedOf r) ⌝ }
 {
     let verdict = order::judged(width, height, cells, rectangles, indices.len(), ends.len());
     if let Verdict::Refused { number, place } = verdict {
@@ -36,5 +31,5 @@ pub fn access_lists(
         indices,
         ends,
     );
-    Answer::Listed { count }
+    Answer::Counted { count }
 }

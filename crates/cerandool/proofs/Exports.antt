@@ -16,9 +16,9 @@ use Rattle.accesslists.proofs.AccessListsCall.{access-lists-one}
 use Rattle.reading.specs.declared.Part as code
 use Rattle.reading.specs.Parts.{asPart}
 use Rattle.answernumbers.specs.declared.FieldAnswer.{FieldAnswer}
-use Rattle.numbers.specs.declared.CountAnswer.{CountAnswer}
+use Rattle.countanswer.specs.declared.CountAnswer.{CountAnswer}
 use Rattle.answernumbers.specs.Numbers.{numbersOf}
-use Rattle.numbers.specs.Numbers.{listedNumbers, joinedNumbers}
+use Rattle.countanswer.specs.Numbers.{listedNumbers, joinedNumbers}
 use Rattle.cerandool.specs.Exports.{FieldExported, AccessExported, AccessListsExported, FieldsExported}
 
 -- no two results of a field call meet its promise: the seven buffers are equal, and so are the eight numbers

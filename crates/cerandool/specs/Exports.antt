@@ -12,9 +12,9 @@ use Rattle.walkgraph.specs.FieldsPromise.{JoinInput, JoinLent, JoinAnswer, Fiel
 use Rattle.manyrectangles.specs.Lent.{ListsLent}
 use Rattle.accesslists.specs.AccessListsPromise.{AccessListsPromise}
 use Rattle.answernumbers.specs.declared.FieldAnswer as code
-use Rattle.numbers.specs.declared.CountAnswer.{CountAnswer}
+use Rattle.countanswer.specs.declared.CountAnswer.{CountAnswer}
 use Rattle.answernumbers.specs.Numbers.{numbersOf}
-use Rattle.numbers.specs.Numbers.{listedNumbers, joinedNumbers}
+use Rattle.countanswer.specs.Numbers.{listedNumbers, joinedNumbers}
 
 -- "Each public function has a promise, and it determines the answer and the final content of each lent buffer on every input": the field call's
 pub record FieldExported (reach : ℕ) (i : FieldInput) (before after : Lent) (r : code.FieldAnswer) : Type 0 where

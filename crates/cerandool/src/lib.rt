@@ -4,10 +4,10 @@ use access;
 use accesslists;
 use answernumbers;
 use answernumbers::FieldAnswer;
+use countanswer;
+use countanswer::CountAnswer;
 use field;
 use fields;
-use numbers;
-use numbers::CountAnswer;
 use reading::Part;
 use recordreading;
 use sheets;
@@ -105,7 +105,7 @@ pub extern "C" fn cerandool_access(
     ensures { λ r. ⌜ AccessExported width height (now (cells .entry)) (corners left top right bottom) (now (out .entry)) (now (out .exit)) r ⌝ }
 {
     let answer = access::call::access(width, height, cells, left, top, right, bottom, out);
-    numbers::access_numbers(answer)
+    countanswer::numbers(answer)
 }
 
 // Access of many rectangles: the indices of the access cells of the first, then of the next, for each how many stand before the end of its own, and how many there are.
@@ -122,7 +122,7 @@ pub extern "C" fn cerandool_access_lists(
         (lists.lent (now (indices .entry)) (now (ends .entry))) (lists.lent (now (indices .exit)) (now (ends .exit))) r ⌝ }
 {
     let answer = accesslists::call::access_lists(width, height, cells, rectangles, indices, ends);
-    numbers::lists_numbers(answer)
+    countanswer::numbers(answer)
 }
 
 // Fields of resources: the number of each resource's field, by its smallest member, and how many fields there are.
@@ -155,7 +155,7 @@ pub extern "C" fn cerandool_fields(
         ranks,
         answers,
     );
-    numbers::fields_numbers(answer)
+    countanswer::numbers(answer)
 }
 
 // The sheet of a room text, or the line of its refusal, at the start of a buffer: how many bytes, and 0 where the buffer is too short for it, which is then left as it is.

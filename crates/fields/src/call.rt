@@ -1,4 +1,5 @@
 // The public call: fields of resources, judged 1, 3, 8, 7.
+use countanswer::Answer;
 use fieldsrefusals;
 use fieldsrefusals::Lent;
 use judge::verdict::Verdict;
@@ -6,13 +7,7 @@ use usedparts;
 ghost use Rattle.walkgraph.specs.FieldsPromise.{FieldsPromise};
 ghost use Rattle.seeds.specs.Sown.{inputOf};
 ghost use Rattle.usedparts.specs.Lent.{lent};
-ghost use Rattle.fields.specs.Answers.{answerOf};
-
-// A call is refused with the table's number and place, or finds so many fields.
-pub enum Answer {
-    Refused { number: u32, place: u32 },
-    Joined { count: usize },
-}
+ghost use Rattle.countanswer.specs.Answers.{joinedOf};
 
 // Fields of resources: the number of each resource's field, by its smallest member, and how many fields there are; or a refusal, and nothing is written.
 pub fn fields(
@@ -29,7 +24,7 @@ pub fn fields(
 ) -> Answer
     ensures { λ r. ⌜ FieldsPromise (inputOf width height (now (cells .entry)) (now (indices .entry)) (now (ends .entry)))
         (lent (now (states .entry)) (now (queue .entry)) (now (parents .entry)) (now (ranks .entry)) (now (answers .entry)))
-        (lent (now (states .exit)) (now (queue .exit)) (now (parents .exit)) (now (ranks .exit)) (now (answers .exit))) (answerOf r) ⌝ }
+        (lent (now (states .exit)) (now (queue .exit)) (now (parents .exit)) (now (ranks .exit)) (now (answers .exit))) (joinedOf r) ⌝ }
 {
     let lent = Lent {
         states: states.len(),
@@ -54,5 +49,5 @@ pub fn fields(
         ranks,
         answers,
     );
-    Answer::Joined { count }
+    Answer::Counted { count }
 }

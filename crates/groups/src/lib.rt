@@ -1,9 +1,8 @@
 // Which resources of a room are one field: their access cells are listed, and the fields call is given the lists.
 // Both calls work in arrays of zeros that have room for any room that the program takes.
 use accesslists::call as lists;
-use accesslists::call::Answer as Lists;
+use countanswer::Answer;
 use fields::call as join;
-use fields::call::Answer as Fields;
 ghost use mathlib.Core.Path.{_≡_};
 ghost use Rattle.walkgraph.specs.Refusals.{accepted};
 ghost use Rattle.walkgraph.specs.FieldsPromise.{fieldsVerdict};
@@ -38,7 +37,7 @@ fn joined(
         &mut ranks,
         answers,
     );
-    let Fields::Joined { count } = found else {
+    let Answer::Counted { count } = found else {
         return 0;
     };
     count
@@ -58,7 +57,7 @@ pub fn groups(
     let mut indices: [u32; 28800] = [0; 28800];
     let mut ends: [u32; 8] = [0; 8];
     let found = lists::access_lists(width, height, cells, resources, &mut indices, &mut ends);
-    let Lists::Listed { count } = found else {
+    let Answer::Counted { count } = found else {
         return 0;
     };
     joined(

@@ -9,7 +9,7 @@ use borrow.Author.Needs.{needs}
 use Rattle.walkgraph.specs.Painting.{Rectangle}
 use Rattle.walkgraph.specs.AccessPromise.{AccessAnswer, AccessPromise}
 use Rattle.rings.specs.Rings.{corners}
-use Rattle.numbers.proofs.Counts.{access-in-u32}
+use Rattle.cerandool.proofs.Counts.{access-in-u32}
 use Rattle.cerandool.proofs.cerandool_access.Statement.{statement}
 use Rattle.cerandool.proofs.cerandool_access.Tie as tie
 
@@ -28,12 +28,12 @@ as-given b p = rw (toZ-ofZ w32 (b .args .left) (b .fits .left), toZ-ofZ w32 (b .
 access-requires : tie.Need-access-requires
 access-requires c κs = search needs
 
-access-numbers-requires : tie.Need-access-numbers-requires
-access-numbers-requires c κs =
+numbers-requires : tie.Need-numbers-requires
+numbers-requires c κs =
     let f = c .before .before in
     let b = f .before .before .before .before in
     let a = b .args in
-    access-in-u32 (a .width) (a .height) (now (a .cells)) (given b) (now (a .out)) (as-given b (f .access .ensures))
+    access-in-u32 (a .width) (a .height) (now (a .cells)) (given b) (now (a .out)) _ (as-given b (f .access .ensures))
 
 same-length : tie.Need-same-length
 same-length c = c .before .before .before .access .kept .1 .1 .1 .1 .1 .1 .1 .0
@@ -42,7 +42,7 @@ returns : tie.Need-returns
 returns c =
     let f = c .before .before .before in
     let b = f .before .before .before .before in
-    record { answer = _; promise = as-given b (f .access .ensures); numbers = c .access-numbers .ensures }
+    record { answer = _; promise = as-given b (f .access .ensures); numbers = c .numbers .ensures .0 }
 
 pub cerandool-access-spec : {M : Type 1} → statement M
-cerandool-access-spec = tie.close (tie.spec access-requires access-numbers-requires same-length returns)
+cerandool-access-spec = tie.close (tie.spec access-requires numbers-requires same-length returns)

@@ -2,18 +2,18 @@
 use denote.Ref.{now}
 use borrow.Author.Needs.{needs}
 use Rattle.manyrectangles.specs.Listing.{lent}
-use Rattle.numbers.proofs.Counts.{lists-in-u32}
+use Rattle.cerandool.proofs.Counts.{lists-in-u32}
 use Rattle.cerandool.proofs.cerandool_access_lists.Statement.{statement}
 use Rattle.cerandool.proofs.cerandool_access_lists.Tie as tie
 
 access-lists-requires : tie.Need-access-lists-requires
 access-lists-requires c κs = search needs
 
-lists-numbers-requires : tie.Need-lists-numbers-requires
-lists-numbers-requires c κs =
+numbers-requires : tie.Need-numbers-requires
+numbers-requires c κs =
     let f = c .before .before .before .before in
     let a = f .before .before .before .before .before .before .args in
-    lists-in-u32 (a .width) (a .height) (now (a .cells)) (now (a .rectangles)) (lent (now (a .indices)) (now (a .ends))) (f .access-lists .ensures)
+    lists-in-u32 (a .width) (a .height) (now (a .cells)) (now (a .rectangles)) (lent (now (a .indices)) (now (a .ends))) _ (f .access-lists .ensures)
 
 same-length : tie.Need-same-length
 same-length c = c .before .before .before .before .before .access-lists .kept .1 .1 .1 .1 .0
@@ -22,7 +22,7 @@ same-length-2 : tie.Need-same-length-2
 same-length-2 c = c .before .before .before .before .before .access-lists .kept .1 .1 .1 .1 .1 .0
 
 returns : tie.Need-returns
-returns c = record { answer = _; promise = c .before .before .before .before .before .access-lists .ensures; numbers = c .lists-numbers .ensures }
+returns c = record { answer = _; promise = c .before .before .before .before .before .access-lists .ensures; numbers = c .numbers .ensures .0 }
 
 pub cerandool-access-lists-spec : {M : Type 1} → statement M
-cerandool-access-lists-spec = tie.close (tie.spec access-lists-requires lists-numbers-requires same-length same-length-2 returns)
+cerandool-access-lists-spec = tie.close (tie.spec access-lists-requires numbers-requires same-length same-length-2 returns)

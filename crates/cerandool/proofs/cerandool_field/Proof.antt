@@ -13,7 +13,7 @@ use Rattle.cells.specs.Boxes.{reach}
 use Rattle.rings.specs.Rings.{corners}
 use Rattle.plan.specs.Plans.{inputOf}
 use Rattle.make.specs.Makes.{lent}
-use Rattle.numbers.proofs.Bounds.{in-u32}
+use Rattle.cerandool.proofs.Bounds.{in-u32}
 use Rattle.cerandool.proofs.cerandool_field.Statement.{statement}
 use Rattle.cerandool.proofs.cerandool_field.Tie as tie
 

@@ -9,7 +9,7 @@ use borrow.Author.Needs.{needs}
 use Rattle.walkgraph.specs.AccessPromise.{listed}
 use Rattle.accesslists.specs.AccessListsPromise.{AccessListsPromise}
 use Rattle.manyrectangles.specs.Listing.{lent}
-use Rattle.accesslists.specs.Answers.{answerOf}
+use Rattle.countanswer.specs.Answers.{listedOf}
 use Rattle.accesslists.proofs.JoinLists.{lists-long}
 use Rattle.groups.specs.Groups.{zeroLists}
 use Rattle.groups.proofs.Calls.{lists-made, join-accepted, groups-found}
@@ -28,7 +28,7 @@ ends c = c .before .before .before .before .before .access-lists .last .1 .1 .1 
 
 -- they are listed
 made : (c : tie.After-known-told) → let a = c .before .before .before .before .before .before .before .before .before .before .args in AccessListsPromise (a .width) (a .height) (now (a .cells)) (now (a .resources)) zeroLists (lent (indices c) (ends c)) (listed (count c))
-unfolding answerOf
+unfolding listedOf
 made c = rw (c .before .found .given .1) at (c .before .before .before .before .before .access-lists .ensures)
 
 -- and they stand in the arrays
@@ -51,7 +51,7 @@ enum-told : tie.Need-enum-told
 enum-told c = search needs
 
 returns : tie.Need-returns
-unfolding answerOf
+unfolding listedOf
 returns c = absurd (lists-made (c .before .before .before .before .before .before .before .before .before .pre) (rw (c .enum-told .given .1) at (c .before .before .before .before .access-lists .ensures)))
 
 array-share-prefix-indices : tie.Need-array-share-prefix-indices

@@ -4,7 +4,7 @@ use borrow.Author.Needs.{needs}
 use Rattle.walkgraph.specs.FieldsPromise.{JoinInput, JoinLent}
 use Rattle.seeds.specs.Sown.{inputOf}
 use Rattle.usedparts.specs.Lent.{lent}
-use Rattle.fields.specs.Answers.{answerOf}
+use Rattle.countanswer.specs.Answers.{joinedOf}
 use Rattle.groups.specs.Groups.{zeroJoin}
 use Rattle.groups.proofs.Calls.{join-made, join-found}
 use Rattle.groups.proofs.joined.Statement.{statement}
@@ -46,7 +46,7 @@ same-length : tie.Need-same-length
 same-length c = search needs
 
 returns : tie.Need-returns
-unfolding answerOf
+unfolding joinedOf
 returns c =
     let b = c .before .before .before .before .before .before .before .before .before .before .before .before .before .before .before .before .before .before in
     let d = c .before .before .before .before .before .before .before .before in
@@ -56,7 +56,7 @@ same-length-2 : tie.Need-same-length-2
 same-length-2 c = search needs
 
 returns-2 : tie.Need-returns-2
-unfolding answerOf
+unfolding joinedOf
 returns-2 c =
     let b = c .before .before .before .before .before .before .before .before .before .before .before .before .before .before .before .before .before .before .before in
     let d = c .before .before .before .before .before .before .before .before .before in

@@ -9,7 +9,7 @@ use Rattle.walkgraph.specs.Refusals.{badGrid}
 use Rattle.rings.specs.Rings.{corners, RingOf, Accepted}
 use Rattle.judge.proofs.Accepted.{grid}
 use Rattle.judge.proofs.Judging.{found-bad, found-good}
-use Rattle.access.specs.Answers.{answerOf}
+use Rattle.countanswer.specs.Answers.{listedOf}
 use Rattle.access.proofs.Answers.{grid-refused, resource-refused, found-on-map, ring-answered}
 use Rattle.access.proofs.call.access.Statement.{statement}
 use Rattle.access.proofs.call.access.Tie as tie
@@ -21,7 +21,7 @@ grid-ok-requires : tie.Need-grid-ok-requires
 grid-ok-requires c κs = search needs
 
 returns : tie.Need-returns
-unfolding answerOf
+unfolding listedOf
 returns c =
     let b = c .before .before .before .before in
     grid-refused (b .args .width) (b .args .height) (b .args .cells .now) (given b) _ (found-bad (c .before .grid-ok .ensures) (c .if1 .taken))
@@ -46,7 +46,7 @@ enum-told : tie.Need-enum-told
 enum-told c = search needs
 
 returns-2 : tie.Need-returns-2
-unfolding answerOf RingOf
+unfolding listedOf RingOf
 returns-2 c =
     let b = c .before .before .before .before .before .before .before in
     resource-refused (b .args .width) (b .args .height) (b .args .cells .now) (given b) _ (good-map (c .before .before .before)) (rw (c .enum-told .given .1) at (ring-told (c .before .before)))

@@ -7,7 +7,7 @@ use Rattle.judge.specs.Verdicts.{verdictOf}
 use Rattle.manyrectangles.specs.Lent.{ListsLent}
 use Rattle.accesslists.specs.AccessListsPromise.{listsVerdict}
 use Rattle.manyrectangles.specs.Listing.{lent}
-use Rattle.accesslists.specs.Answers.{answerOf}
+use Rattle.countanswer.specs.Answers.{listedOf}
 use Rattle.accesslists.proofs.Verdicts.{all-fit, call-refused, call-listed}
 use Rattle.accesslists.proofs.call.access_lists.Statement.{statement}
 use Rattle.accesslists.proofs.call.access_lists.Tie as tie
@@ -23,7 +23,7 @@ enum-known-verdict : tie.Need-enum-known-verdict
 enum-known-verdict c = search needs
 
 returns : tie.Need-returns
-unfolding verdictOf answerOf
+unfolding verdictOf listedOf
 returns c =
     let b = c .before .before .before .before .before .before .before in
     call-refused (b .args .width) (b .args .height) (b .args .cells .now) (b .args .rectangles .now) (before b) (rw (c .before .verdict .given .1) at (c .before .before .before .judged .ensures))
@@ -48,7 +48,7 @@ same-length-2 : tie.Need-same-length-2
 same-length-2 c = search needs
 
 returns-2 : tie.Need-returns-2
-unfolding answerOf
+unfolding listedOf
 returns-2 c =
     let b = c .before .before .before .before .before .before .before .before .before .before .before .before .before in
     call-listed (b .args .width) (b .args .height) (b .args .cells .now) (b .args .rectangles .now) (before b) (good (c .before .before .before .before .before .before .before)) (c .before .before .before .before .list-all .ensures)

@@ -7,7 +7,7 @@ use Rattle.walkgraph.specs.FieldsPromise.{JoinInput, JoinLent, lengthsOf, field
 use Rattle.judge.specs.Verdicts.{verdictOf}
 use Rattle.seeds.specs.Sown.{inputOf}
 use Rattle.usedparts.specs.Lent.{lent}
-use Rattle.fields.specs.Answers.{answerOf}
+use Rattle.countanswer.specs.Answers.{joinedOf}
 use Rattle.fields.proofs.Calls.{call-joined}
 use Rattle.fields.proofs.call.fields.Statement.{statement}
 use Rattle.fields.proofs.call.fields.Tie as tie
@@ -31,7 +31,7 @@ enum-known-verdict : tie.Need-enum-known-verdict
 enum-known-verdict c = search needs
 
 returns : tie.Need-returns
-unfolding answerOf verdictOf
+unfolding joinedOf verdictOf
 returns c = refuses (told (c .before .before .before) ∙ ap verdictOf (c .before .verdict .given .1))
 
 enum-told : tie.Need-enum-told
@@ -57,7 +57,7 @@ same-length-5 : tie.Need-same-length-5
 same-length-5 c = c .before .before .before .before .before .before .before .before .before .before .joined .kept .1 .1 .1 .1 .1 .1 .1 .1 .1 .0
 
 returns-2 : tie.Need-returns-2
-unfolding answerOf verdictOf
+unfolding joinedOf verdictOf
 returns-2 c = call-joined (told (c .before .before .before .before .before .before .before .before .before .before .before .before .before .before .before .before .before .before) ∙ ap verdictOf (c .before .before .before .before .before .before .before .before .before .before .before .before .before .before .before .before .enum-told .given .1)) (c .before .before .before .before .before .before .before .before .before .before .joined .ensures) (omega arith)
 
 pub fields-spec : {M : Type 1} → statement M

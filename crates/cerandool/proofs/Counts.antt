@@ -1,4 +1,4 @@
--- The counts of the other calls' answers are u32s: a ring has no more cells than the map, and there are no more fields than resources.
+-- The counts of the other calls are u32s: a ring has no more cells than the map, and there are no more fields than resources.
 use mathlib.Core.List.{List}
 use Prim.Native.Nat.{ℕ, zero, suc, _-_, _/_, _≤_, _<_}
 use native.Mathlib.Nat.{mul-le-mul}
@@ -10,9 +10,9 @@ use borrow.Author.Tests.{ltb-false}
 use Rattle.walkgraph.specs.Painting.{Rectangle}
 use Rattle.walkgraph.specs.Links.{Joined, Numbered}
 use Rattle.walkgraph.specs.Refusals.{accessVerdict, joinVerdict}
-use Rattle.walkgraph.specs.AccessPromise.{AccessAnswer, AccessPromise}
+use Rattle.walkgraph.specs.AccessPromise.{AccessPromise}
 use Rattle.walkgraph.specs.AccessPromise as access
-use Rattle.walkgraph.specs.FieldsPromise.{JoinInput, JoinLent, JoinAnswer, fieldsVerdict, AnswersAre, FieldsPromise, refuses, joins}
+use Rattle.walkgraph.specs.FieldsPromise.{JoinInput, JoinLent, fieldsVerdict, AnswersAre, FieldsPromise, joins}
 use Rattle.walkgraph.proofs.Tests.{by-cases}
 use Rattle.walkgraph.proofs.Numbering.{seek}
 use Rattle.judge.proofs.Accepted.{grid}
@@ -23,21 +23,24 @@ use Rattle.accesslists.specs.AccessListsPromise as lists
 use Rattle.manyrectangles.proofs.Rectangles.{access-most}
 use Rattle.manyrectangles.proofs.AllCells.{all-most}
 use Rattle.accesslists.proofs.Verdicts.{all-fit}
-use Rattle.numbers.specs.Numbers.{ListedInU32, JoinedInU32}
+use Rattle.countanswer.specs.declared.Answer.{Answer}
+use Rattle.countanswer.specs.declared.Answer.the-variants.{Refused, Counted}
+use Rattle.countanswer.specs.Answers.{listedOf, joinedOf}
+use Rattle.countanswer.specs.Numbers.{InU32}
 
 -- ---- access of a rectangle: at most 1,048,576 cells
-pub access-in-u32 : (w h : ℕ) (cells : List ℕ) (r : Rectangle) (before : List ℕ) {after : List ℕ} {a : AccessAnswer} → AccessPromise w h cells r before after a → ListedInU32 a
-unfolding ListedInU32 accessVerdict
-access-in-u32 w h cells r before (access.refuses e) = tt
-access-in-u32 w h cells r before (access.lists e) =
+pub access-in-u32 : (w h : ℕ) (cells : List ℕ) (r : Rectangle) (before : List ℕ) {after : List ℕ} (a : Answer) → AccessPromise w h cells r before after (listedOf a) → InU32 a
+unfolding InU32 listedOf accessVerdict
+access-in-u32 w h cells r before (Refused number place) p = tt
+access-in-u32 w h cells r before (Counted count) (access.lists e) =
     let g = grid w h cells (accepted-parts _ _ _ _ e .0) in
     omega (arith, access-most w h cells r (g .across .some) (g .along .some), mul-le-mul (g .along .most) (g .across .most))
 
 -- ---- access of many rectangles: at most 512 times as many
-pub lists-in-u32 : (w h : ℕ) (cells : List ℕ) (l : List ℤ) (before : ListsLent) {after : ListsLent} {a : AccessAnswer} → AccessListsPromise w h cells l before after a → ListedInU32 a
-unfolding ListedInU32
-lists-in-u32 w h cells l before (lists.refuses e) = tt
-lists-in-u32 w h cells l before (lists.lists e) =
+pub lists-in-u32 : (w h : ℕ) (cells : List ℕ) (l : List ℤ) (before : ListsLent) {after : ListsLent} (a : Answer) → AccessListsPromise w h cells l before after (listedOf a) → InU32 a
+unfolding InU32 listedOf
+lists-in-u32 w h cells l before (Refused number place) p = tt
+lists-in-u32 w h cells l before (Counted count) (lists.lists e) =
     let fit = all-fit w h cells l (length (before .indices)) (length (before .ends)) e in
     omega (arith, all-most w h cells l (fit .judged) (length l / 4) (omega arith))
 
@@ -69,9 +72,9 @@ count-most {i} {before} {after} {count} a =
     let t = a .used (length (i .ends)) (omega arith) in
     absurd (omega (arith, t .1, t .2, number-most (a .numbered) (length (i .ends)) (omega arith) (t .0) (t .1))))
 
-pub joined-in-u32 : (i : JoinInput) (before : JoinLent) {after : JoinLent} {a : JoinAnswer} → FieldsPromise i before after a → JoinedInU32 a
-unfolding JoinedInU32 fieldsVerdict joinVerdict
-joined-in-u32 i before (refuses e) = tt
-joined-in-u32 i before (joins e made) =
+pub joined-in-u32 : (i : JoinInput) (before : JoinLent) {after : JoinLent} (a : Answer) → FieldsPromise i before after (joinedOf a) → InU32 a
+unfolding InU32 joinedOf fieldsVerdict joinVerdict
+joined-in-u32 i before (Refused number place) p = tt
+joined-in-u32 i before (Counted count) (joins e made) =
     let few = ltb-false 512 (length (i .ends)) (accepted-parts _ _ _ _ (accepted-parts _ _ _ _ e .1) .0) in
     omega (arith, count-most (made .answers))

@@ -2,7 +2,9 @@
 use Prim.Native.Nat.{ℕ, _≤_}
 use Rattle.walkgraph.specs.AccessPromise as access
 use Rattle.walkgraph.specs.FieldsPromise as fields
-use Rattle.numbers.specs.declared.CountAnswer.{CountAnswer}
+use Rattle.countanswer.specs.declared.Answer.{Answer}
+use Rattle.countanswer.specs.declared.Answer.the-variants.{Refused, Counted}
+use Rattle.countanswer.specs.declared.CountAnswer.{CountAnswer}
 
 -- "A refusal returns number and place"; what it does not have is 0
 abbrev pub refusedNumbers : ℕ → ℕ → CountAnswer
@@ -17,17 +19,12 @@ unfoldable pub listedNumbers : access.AccessAnswer → CountAnswer
 listedNumbers (access.refusal number place) = refusedNumbers number place
 listedNumbers (access.listed count) = countedNumbers count
 
--- its numbers are u32s
-unfoldable pub ListedInU32 : access.AccessAnswer → Type 0
-ListedInU32 (access.refusal number place) = Unit {0}
-ListedInU32 (access.listed count) = count ≤ 4294967295
-
 -- the fields call: how many fields there are
 unfoldable pub joinedNumbers : fields.JoinAnswer → CountAnswer
 joinedNumbers (fields.refusal number place) = refusedNumbers number place
 joinedNumbers (fields.joined count) = countedNumbers count
 
--- its numbers are u32s
-unfoldable pub JoinedInU32 : fields.JoinAnswer → Type 0
-JoinedInU32 (fields.refusal number place) = Unit {0}
-JoinedInU32 (fields.joined count) = count ≤ 4294967295
+-- an answer whose numbers are u32s; those of a refusal are from the start
+unfoldable pub InU32 : Answer → Type 0
+InU32 (Refused number place) = Unit {0}
+InU32 (Counted count) = count ≤ 4294967295

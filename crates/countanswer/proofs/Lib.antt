@@ -1,0 +1,2 @@
+-- No two answers have the same meaning.
+pub mod Answers

@@ -1,2 +1,0 @@
--- The fields call's answer.
-pub mod Answers

@@ -1,2 +1,0 @@
--- The numbers that stand for an answer.
-pub mod Numbers
