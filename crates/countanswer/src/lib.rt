@@ -1,5 +1,6 @@
 // What a call that counts answers, access of a rectangle, of many, and the fields call, and the same in numbers alone, as the static library gives it back.
 ghost use mathlib.Core.Path.{_≡_};
+ghost use Rattle.walkgraph.specs.FieldsPromise.{joined};
 ghost use Rattle.countanswer.specs.Answers.{listedOf, joinedOf};
 ghost use Rattle.countanswer.specs.Numbers.{listedNumbers, joinedNumbers, InU32};
 
@@ -7,6 +8,13 @@ ghost use Rattle.countanswer.specs.Numbers.{listedNumbers, joinedNumbers
 pub enum Answer {
     Refused { number: u32, place: u32 },
     Counted { count: usize },
+}
+
+// The fields call's answer where so many fields are found.
+pub fn found(fields: usize) -> Answer
+    ensures { λ r. ⌜ joinedOf r ≡ joined fields ⌝ }
+{
+    Answer::Counted { count: fields }
 }
 
 // What a call leads to that counts. Where it is accepted, number and place are 0, and how many there are follows.

@@ -1,3 +1,2 @@
--- The fields call's promise, and that it determines the answer.
+-- The fields call's promise determines the answer.
 pub mod Answers
-pub mod Calls

@@ -1,4 +1,5 @@
 // The public call: fields of resources, judged 1, 3, 8, 7.
+use countanswer;
 use countanswer::Answer;
 use fieldsrefusals;
 use fieldsrefusals::Lent;
@@ -49,5 +50,5 @@ pub fn fields(
         ranks,
         answers,
     );
-    Answer::Counted { count }
+    countanswer::found(count)
 }

@@ -1,14 +1,12 @@
 -- `fields::call::fields`: judged, then refused with nothing written, or the fields found.
 use mathlib.Core.Path.{_≡_, sym, _∙_, ap}
-use native.Mathlib.Omega.{arith}
 use borrow.Author.Needs.{needs}
 use denote.Ref.{now}
-use Rattle.walkgraph.specs.FieldsPromise.{JoinInput, JoinLent, lengthsOf, fieldsVerdict, refuses}
+use Rattle.walkgraph.specs.FieldsPromise.{JoinInput, JoinLent, lengthsOf, fieldsVerdict, refuses, joins}
 use Rattle.judge.specs.Verdicts.{verdictOf}
 use Rattle.seeds.specs.Sown.{inputOf}
 use Rattle.usedparts.specs.Lent.{lent}
 use Rattle.countanswer.specs.Answers.{joinedOf}
-use Rattle.fields.proofs.Calls.{call-joined}
 use Rattle.fields.proofs.call.fields.Statement.{statement}
 use Rattle.fields.proofs.call.fields.Tie as tie
 
@@ -41,24 +39,29 @@ joined-requires : tie.Need-joined-requires
 unfolding verdictOf
 joined-requires c κs = told (c .before .before .before .before .before .before .before) ∙ ap verdictOf (c .before .before .before .before .before .enum-told .given .1)
 
+found-requires : tie.Need-found-requires
+found-requires c κs = tt
+
 same-length : tie.Need-same-length
-same-length c = c .before .before .before .before .before .before .before .before .before .before .joined .kept .1 .1 .1 .1 .1 .0
+same-length c = c .before .before .before .before .before .before .before .before .before .before .before .joined .kept .1 .1 .1 .1 .1 .0
 
 same-length-2 : tie.Need-same-length-2
-same-length-2 c = c .before .before .before .before .before .before .before .before .before .before .joined .kept .1 .1 .1 .1 .1 .1 .0
+same-length-2 c = c .before .before .before .before .before .before .before .before .before .before .before .joined .kept .1 .1 .1 .1 .1 .1 .0
 
 same-length-3 : tie.Need-same-length-3
-same-length-3 c = c .before .before .before .before .before .before .before .before .before .before .joined .kept .1 .1 .1 .1 .1 .1 .1 .0
+same-length-3 c = c .before .before .before .before .before .before .before .before .before .before .before .joined .kept .1 .1 .1 .1 .1 .1 .1 .0
 
 same-length-4 : tie.Need-same-length-4
-same-length-4 c = c .before .before .before .before .before .before .before .before .before .before .joined .kept .1 .1 .1 .1 .1 .1 .1 .1 .0
+same-length-4 c = c .before .before .before .before .before .before .before .before .before .before .before .joined .kept .1 .1 .1 .1 .1 .1 .1 .1 .0
 
 same-length-5 : tie.Need-same-length-5
-same-length-5 c = c .before .before .before .before .before .before .before .before .before .before .joined .kept .1 .1 .1 .1 .1 .1 .1 .1 .1 .0
+same-length-5 c = c .before .before .before .before .before .before .before .before .before .before .before .joined .kept .1 .1 .1 .1 .1 .1 .1 .1 .1 .0
 
 returns-2 : tie.Need-returns-2
-unfolding joinedOf verdictOf
-returns-2 c = call-joined (told (c .before .before .before .before .before .before .before .before .before .before .before .before .before .before .before .before .before .before) ∙ ap verdictOf (c .before .before .before .before .before .before .before .before .before .before .before .before .before .before .before .before .enum-told .given .1)) (c .before .before .before .before .before .before .before .before .before .before .joined .ensures) (omega arith)
+unfolding verdictOf
+returns-2 c =
+    let m = c .before .before .before .before .before .before .before .before .before .before .before in
+    rw (c .found .ensures) (joins (told (m .before .before .before .before .before .before .before .before) ∙ ap verdictOf (m .before .before .before .before .before .before .enum-told .given .1)) (m .joined .ensures))
 
 pub fields-spec : {M : Type 1} → statement M
 fields-spec =
@@ -69,6 +72,7 @@ fields-spec =
     returns
     enum-told
     joined-requires
+    found-requires
     same-length
     same-length-2
     same-length-3
