@@ -1,15 +1,14 @@
 -- What a call finds, test by test, is what access of a rectangle promises.
-use mathlib.Core.Path.{_≡_, refl, sym}
+use mathlib.Core.Path.{_≡_, sym}
 use mathlib.Core.Bool.{true, false}
 use mathlib.Core.List.{List}
 use Prim.Native.Nat.{ℕ, _+_, _≤_}
 use native.Mathlib.Nat.{mul-le-mul, mul-comm}
 use native.Mathlib.Omega.{arith}
 use lib.ListN.{length}
-use borrow.Author.Tests.{lt-ltb, le-ltb}
 use Rattle.walkgraph.specs.Painting.{Rectangle}
 use Rattle.walkgraph.specs.Ring.{body, ringBox, accessCells}
-use Rattle.walkgraph.specs.Refusals.{badGrid, badResource, accepted, accessVerdict}
+use Rattle.walkgraph.specs.Refusals.{badGrid, badResource, accessVerdict}
 use Rattle.walkgraph.specs.AccessPromise.{AccessPromise, refusal}
 use Rattle.walkgraph.specs.AccessPromise as promise
 use Rattle.cells.specs.declared.boxes.CellBox.{CellBox}
@@ -23,7 +22,8 @@ use Rattle.countanswer.specs.declared.Answer.{Answer}
 use Rattle.countanswer.specs.Answers.{listedOf}
 use Rattle.ringruns.specs.Runs.{OnMap}
 use Rattle.ringrows.specs.Rows.{ringPlaces}
-use Rattle.access.specs.Answers.{RingListed, short, fits}
+use Rattle.ringanswer.specs.Answers.{RingListed}
+use Rattle.ringanswer.proofs.Answers.{answered}
 use Rattle.ringrows.proofs.AccessRuns.{ring-accessed}
 
 module _ (w h : ℕ) (cells : List ℕ) (r : Rectangle) where
@@ -65,12 +65,6 @@ module _ (w h : ℕ) (cells : List ℕ) (r : Rectangle) where
           few = omega (arith, mul-le-mul wide high, g .long);
         }
 
-    -- ---- refusal 7, or the list
-    answered : {before after : List ℕ} {a : Answer} → RingListed (accessCells w h cells r) before after a → AccessPromise w h cells r before after (listedOf a)
-    unfolding accessVerdict listedOf
-    answered (short s) = promise.refuses (sym (passes 1 0 good-grid (passes 4 0 good (refuses accepted (lt-ltb _ _ s)))))
-    answered (fits s) = promise.lists (sym (passes 1 0 good-grid (passes 4 0 good (passes 7 0 (le-ltb _ _ s) refl))))
-
     -- the same of its ring box and its body as the code has them
     module _ (ring core : CellBox) (e : Accepted w h r ring core) where
       pub found-on-map : OnMap w (length cells) (boxOf ring) (boxOf core)
@@ -80,4 +74,4 @@ module _ (w h : ℕ) (cells : List ℕ) (r : Rectangle) where
       found-access = rw (e .ring, e .body) (ring-accessed w h cells r (ring-on-map .grid) (ring-in-map w h r (on-map w h r good) .tall))
 
       pub ring-answered : {before after : List ℕ} {a : Answer} → RingListed (ringPlaces cells w (boxOf ring) (boxOf core)) before after a → AccessPromise w h cells r before after (listedOf a)
-      ring-answered l = answered (rw found-access at l)
+      ring-answered l = answered w h cells r good-grid good (rw found-access at l)

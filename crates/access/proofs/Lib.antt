@@ -1,3 +1,2 @@
--- The laws that the proofs of this crate cite.
-pub mod RingListing
+-- What a call finds is what access of a rectangle promises.
 pub mod Answers

@@ -7,7 +7,7 @@ use lib.ListN.{length, drop}
 use lib.Seq.{sets-eq}
 use Rattle.ringlists.specs.Lists.{Listed}
 use Rattle.countanswer.specs.declared.Answer.the-variants.{Counted}
-use Rattle.access.specs.Answers.{RingListed, fits}
+use Rattle.ringanswer.specs.Answers.{RingListed, fits}
 
 -- a whole list from the buffer's start on
 pub ring-listed : {p before after : List ℕ} {end : ℕ} → length p ≤ length before → Listed p before 0 after end → RingListed p before after (Counted end)

@@ -1,0 +1,2 @@
+-- What is answered once the ring is found.
+pub mod Answers
