@@ -25,7 +25,7 @@ use Rattle.accessrefusal.proofs.Accepted.{AccessLists}
 use Rattle.accessrefusal.proofs.Accepted as found
 use Rattle.manyrectangles.specs.AllCells.{cellsOf, allCells, endsOf}
 use Rattle.manyrectangles.specs.Lent.{ListsLent, listedIn}
-use Rattle.accesslists.specs.AccessListsPromise.{AccessListsPromise, lists}
+use Rattle.listspromise.specs.AccessListsPromise.{AccessListsPromise, lists}
 use Rattle.manyrectangles.specs.Listing.{AllFit}
 use Rattle.accesslists.specs.JoinLists.{joinInput}
 use Rattle.manyrectangles.proofs.AllCells.{ends-length}

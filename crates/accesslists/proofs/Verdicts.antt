@@ -1,6 +1,6 @@
 -- What the call finds, test by test, is its verdict; what an accepted call is known by; and the answer is what is promised.
 use mathlib.Core.Path.{_≡_, refl, sym, ap, _∙_}
-use mathlib.Core.Bool.{true, false}
+use mathlib.Core.Bool.{Bool, true, false}
 use mathlib.Core.List.{List}
 use Prim.Native.Nat.{ℕ, _*_, _/_, _≤_, _<_}
 use native.Mathlib.Omega.{arith}
@@ -16,8 +16,8 @@ use Rattle.cells.proofs.Bools.{neither}
 use Rattle.judge.proofs.Judging.{refuses, passes, accepted-parts}
 use Rattle.manyrectangles.specs.AllCells.{allCells}
 use Rattle.manyrectangles.specs.Lent.{ListsLent}
-use Rattle.accesslists.specs.AccessListsPromise.{listsVerdict, AccessListsPromise}
-use Rattle.accesslists.specs.AccessListsPromise as promise
+use Rattle.listspromise.specs.AccessListsPromise.{shortLists, listsVerdict, AccessListsPromise}
+use Rattle.listspromise.specs.AccessListsPromise as promise
 use Rattle.manyrectangles.specs.Listing.{Judged, AllFit, AllListed}
 use Rattle.manyrectangles.proofs.AllCells.{all-area}
 
@@ -52,29 +52,28 @@ module _ (w h : ℕ) (cells : List ℕ) (l : List ℤ) (indices ends : ℕ) wher
     good-rectangles : ltb (firstBadResource w h l) (length l / 4) ≡ false
     good-rectangles = le-ltb (firstBadResource w h l) (length l / 4) (omega (arith, j .good))
 
-    pub indices-short : indices < length (allCells w h cells l (length l / 4)) → refused 7 0 ≡ listsVerdict w h cells l indices ends
-    unfolding listsVerdict
-    indices-short i = passes 1 0 (j .map) (passes 3 0 (j .fours) (passes 4 _ good-rectangles (refuses accepted (rw (lt-ltb indices _ i)))))
+    abbrev short : Bool
+    short = shortLists (length (allCells w h cells l (length l / 4))) (length l / 4) indices ends
 
-    pub ends-short : length (allCells w h cells l (length l / 4)) ≤ indices → ends < length l / 4 → refused 7 0 ≡ listsVerdict w h cells l indices ends
+    pub room-refused : short ≡ true → refused 7 0 ≡ listsVerdict w h cells l indices ends
     unfolding listsVerdict
-    ends-short i k = passes 1 0 (j .map) (passes 3 0 (j .fours) (passes 4 _ good-rectangles (refuses accepted (rw (le-ltb indices _ i) (lt-ltb ends _ k)))))
+    room-refused e = passes 1 0 (j .map) (passes 3 0 (j .fours) (passes 4 _ good-rectangles (refuses accepted e)))
 
-    pub none-short : length (allCells w h cells l (length l / 4)) ≤ indices → length l / 4 ≤ ends → accepted ≡ listsVerdict w h cells l indices ends
+    pub none-refused : short ≡ false → accepted ≡ listsVerdict w h cells l indices ends
     unfolding listsVerdict
-    none-short i k = passes 1 0 (j .map) (passes 3 0 (j .fours) (passes 4 _ good-rectangles (passes 7 0 (rw (le-ltb indices _ i) (le-ltb ends _ k)) refl)))
+    none-refused e = passes 1 0 (j .map) (passes 3 0 (j .fours) (passes 4 _ good-rectangles (passes 7 0 e refl)))
 
   -- ---- with room for as many indices as n maps have cells, 7 is not given
   pub with-room : badGrid w h cells ≡ false → length l / 4 * (h * w) ≤ indices → length l / 4 ≤ ends →
       listsVerdict w h cells l indices ends ≡ judge (badFours 512 l) 3 0 (judge (ltb (firstBadResource w h l) (length l / 4)) 4 (firstBadResource w h l) accepted)
-  unfolding listsVerdict judge
+  unfolding listsVerdict shortLists judge
   with-room e i k =
       let n = length l / 4 in
       rw (e, le-ltb indices (length (allCells w h cells l n)) (omega (arith, all-area w h cells l e n)), le-ltb ends n k)
 
   -- ---- an accepted call
   pub all-fit : listsVerdict w h cells l indices ends ≡ accepted → AllFit w h cells l indices ends
-  unfolding listsVerdict
+  unfolding listsVerdict shortLists
   all-fit e =
       let n = length l / 4 in
       let all = allCells w h cells l n in

@@ -1,3 +1,2 @@
--- The access cells of many rectangles: what the call promises, and the lists as the fields call is given them.
-pub mod AccessListsPromise
+-- The lists of an accepted call as the fields call is given them.
 pub mod JoinLists

@@ -3,7 +3,7 @@ use crate::order;
 use countanswer::Answer;
 use judge::verdict::Verdict;
 use rectanglelists;
-ghost use Rattle.accesslists.specs.AccessListsPromise.{AccessListsPromise};
+ghost use Rattle.listspromise.specs.AccessListsPromise.{AccessListsPromise};
 ghost use Rattle.manyrectangles.specs.Listing.{lent};
 ghost use Rattle.countanswer.specs.Answers.{listedOf};
 

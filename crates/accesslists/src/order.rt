@@ -2,11 +2,12 @@
 use judge::grid;
 use judge::numbers;
 use judge::verdict::Verdict;
+use listspromise;
 use manyrectangles::all;
 use rings::ring;
 ghost use mathlib.Core.Path.{_≡_};
 ghost use Rattle.judge.specs.Verdicts.{verdictOf};
-ghost use Rattle.accesslists.specs.AccessListsPromise.{listsVerdict};
+ghost use Rattle.listspromise.specs.AccessListsPromise.{listsVerdict};
 
 // The verdict on a call, by what it is given and the lengths of what it is lent.
 pub fn judged(
@@ -34,19 +35,15 @@ pub fn judged(
     let columns = width as usize;
     let rows = height as usize;
     let good = ring::accepted(rectangles, columns, rows);
-    if good < rectangles.len() / 4 {
+    let count = rectangles.len() / 4;
+    if good < count {
         return Verdict::Refused {
             number: 4,
             place: good as u32,
         };
     }
-    if indices < all::count_all(cells, rectangles, columns, rows) {
-        return Verdict::Refused {
-            number: 7,
-            place: 0,
-        };
-    }
-    if ends < good {
+    let listed = all::count_all(cells, rectangles, columns, rows);
+    if !listspromise::room_ok(listed, count, indices, ends) {
         return Verdict::Refused {
             number: 7,
             place: 0,

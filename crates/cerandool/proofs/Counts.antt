@@ -18,8 +18,8 @@ use Rattle.walkgraph.proofs.Numbering.{seek}
 use Rattle.judge.proofs.Accepted.{grid}
 use Rattle.judge.proofs.Judging.{accepted-parts}
 use Rattle.manyrectangles.specs.Lent.{ListsLent}
-use Rattle.accesslists.specs.AccessListsPromise.{AccessListsPromise}
-use Rattle.accesslists.specs.AccessListsPromise as lists
+use Rattle.listspromise.specs.AccessListsPromise.{AccessListsPromise}
+use Rattle.listspromise.specs.AccessListsPromise as lists
 use Rattle.manyrectangles.proofs.Rectangles.{access-most}
 use Rattle.manyrectangles.proofs.AllCells.{all-most}
 use Rattle.accesslists.proofs.Verdicts.{all-fit}

@@ -12,7 +12,7 @@ use Rattle.walklaws.proofs.Promises.{promise-one}
 use Rattle.walklaws.proofs.AccessCall.{access-one}
 use Rattle.walklaws.proofs.FieldsCall.{fields-one}
 use Rattle.manyrectangles.specs.Lent.{ListsLent}
-use Rattle.accesslists.proofs.AccessListsCall.{access-lists-one}
+use Rattle.listspromise.proofs.AccessListsCall.{access-lists-one}
 use Rattle.reading.specs.declared.Part as code
 use Rattle.reading.specs.Parts.{asPart}
 use Rattle.answernumbers.specs.declared.FieldAnswer.{FieldAnswer}

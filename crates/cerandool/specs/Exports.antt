@@ -10,7 +10,7 @@ use Rattle.walkgraph.specs.Promise.{FieldAnswer, FieldPromise}
 use Rattle.walkgraph.specs.AccessPromise.{AccessAnswer, AccessPromise}
 use Rattle.walkgraph.specs.FieldsPromise.{JoinInput, JoinLent, JoinAnswer, FieldsPromise}
 use Rattle.manyrectangles.specs.Lent.{ListsLent}
-use Rattle.accesslists.specs.AccessListsPromise.{AccessListsPromise}
+use Rattle.listspromise.specs.AccessListsPromise.{AccessListsPromise}
 use Rattle.answernumbers.specs.declared.FieldAnswer as code
 use Rattle.countanswer.specs.declared.CountAnswer.{CountAnswer}
 use Rattle.answernumbers.specs.Numbers.{numbersOf}

@@ -16,8 +16,8 @@ use Rattle.walklaws.proofs.Promises.{clash}
 use Rattle.judge.proofs.Accepted.{fours}
 use Rattle.judge.proofs.Judging.{passes}
 use Rattle.manyrectangles.specs.Lent.{ListsLent}
-use Rattle.accesslists.specs.AccessListsPromise.{listsVerdict, AccessListsPromise}
-use Rattle.accesslists.specs.AccessListsPromise as lists
+use Rattle.listspromise.specs.AccessListsPromise.{listsVerdict, AccessListsPromise}
+use Rattle.listspromise.specs.AccessListsPromise as lists
 use Rattle.accesslists.specs.JoinLists.{joinInput}
 use Rattle.accesslists.proofs.Verdicts.{with-room}
 use Rattle.accesslists.proofs.JoinLists.{room-decides}

@@ -6,7 +6,7 @@ use lib.IntN.{ℤ}
 use Rattle.walkgraph.specs.FieldsPromise.{JoinInput, JoinLent}
 use Rattle.walklaws.proofs.FieldsCall.{fields-one}
 use Rattle.accesslists.specs.JoinLists.{joinInput}
-use Rattle.accesslists.proofs.AccessListsCall.{access-lists-one}
+use Rattle.listspromise.proofs.AccessListsCall.{access-lists-one}
 use Rattle.groups.specs.Groups.{zeroLists, zeroJoin, Joins, Grouped}
 
 module _ {input : JoinInput} {before d e : List ℕ} {j k : ℕ} (p : Joins input before d j) (q : Joins input before e k) where

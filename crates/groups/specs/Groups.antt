@@ -9,7 +9,7 @@ use Rattle.walkgraph.specs.Refusals.{badGrid, badFours, firstBadResource}
 use Rattle.walkgraph.specs.AccessPromise.{listed}
 use Rattle.walkgraph.specs.FieldsPromise.{JoinInput, JoinLent, FieldsPromise, joined}
 use Rattle.manyrectangles.specs.Lent.{ListsLent}
-use Rattle.accesslists.specs.AccessListsPromise.{AccessListsPromise}
+use Rattle.listspromise.specs.AccessListsPromise.{AccessListsPromise}
 use Rattle.manyrectangles.specs.Listing as listing
 use Rattle.accesslists.specs.JoinLists.{joinInput}
 use Rattle.usedparts.specs.Lent as fields

@@ -7,7 +7,7 @@ use lib.ListN.{length}
 use lib.Seq.{length-take-le}
 use borrow.Author.Needs.{needs}
 use Rattle.walkgraph.specs.AccessPromise.{listed}
-use Rattle.accesslists.specs.AccessListsPromise.{AccessListsPromise}
+use Rattle.listspromise.specs.AccessListsPromise.{AccessListsPromise}
 use Rattle.manyrectangles.specs.Listing.{lent}
 use Rattle.countanswer.specs.Answers.{listedOf}
 use Rattle.accesslists.proofs.JoinLists.{lists-long}

@@ -5,7 +5,7 @@ use lib.ListN.{length}
 use Rattle.walkgraph.specs.Refusals.{accepted}
 use Rattle.judge.specs.Verdicts.{verdictOf}
 use Rattle.manyrectangles.specs.Lent.{ListsLent}
-use Rattle.accesslists.specs.AccessListsPromise.{listsVerdict}
+use Rattle.listspromise.specs.AccessListsPromise.{listsVerdict}
 use Rattle.manyrectangles.specs.Listing.{lent}
 use Rattle.countanswer.specs.Answers.{listedOf}
 use Rattle.accesslists.proofs.Verdicts.{all-fit, call-refused, call-listed}

@@ -1,14 +1,18 @@
 -- `accesslists::order::judged`: its tests are those of the table, in the call's order.
-use mathlib.Core.Path.{_≡_}
-use mathlib.Core.Bool.{false}
+use mathlib.Core.Path.{_≡_, ap, _∙_}
+use mathlib.Core.Bool.{false, not}
+use Prim.Native.Nat.{ℕ, _/_}
 use native.Mathlib.Omega.{arith}
+use lib.ListN.{length}
 use borrow.Author.Needs.{needs}
 use Rattle.walkgraph.specs.Refusals.{badGrid, badFours}
 use Rattle.judge.specs.Verdicts.{verdictOf}
 use Rattle.judge.proofs.Judging.{found-bad, found-good}
 use Rattle.judge.proofs.Accepted.{grid, fours}
+use Rattle.manyrectangles.specs.AllCells.{allCells}
 use Rattle.manyrectangles.specs.Listing.{Judged}
-use Rattle.accesslists.proofs.Verdicts.{grid-refused, count-refused, rectangle-refused, judged-all, indices-short, ends-short, none-short}
+use Rattle.listspromise.specs.AccessListsPromise.{shortLists}
+use Rattle.accesslists.proofs.Verdicts.{grid-refused, count-refused, rectangle-refused, judged-all, room-refused, none-refused}
 use Rattle.accesslists.proofs.order.judged.Statement.{statement}
 use Rattle.accesslists.proofs.order.judged.Tie as tie
 
@@ -36,8 +40,8 @@ accepted-requires : tie.Need-accepted-requires
 accepted-requires c κs =
     let g = grid (c .before .before .before .before .before .args .width) (c .before .before .before .before .before .args .height) (c .before .before .before .before .before .args .cells .now) (good-map (c .before .before)) in (g .across .most, g .along .most)
 
-cast-t14 : tie.Need-cast-t14
-cast-t14 c = omega (arith, c .if3 .taken, fours 512 (c .before .before .before .before .before .before .before .args .rectangles .now) (good-count (c .before .before)) .few)
+cast-t15 : tie.Need-cast-t15
+cast-t15 c = omega (arith, c .if3 .taken, fours 512 (c .before .before .before .before .before .before .before .args .rectangles .now) (good-count (c .before .before)) .few)
 
 returns-3 : tie.Need-returns-3
 unfolding verdictOf
@@ -54,25 +58,27 @@ good-all c =
 count-all-requires : tie.Need-count-all-requires
 count-all-requires c κs = good-all c
 
+room-ok-requires : tie.Need-room-ok-requires
+room-ok-requires c κs = tt
+
+-- the tests on as many access cells as there are
+room-told : (c : tie.After-room-ok) → let a = c .before .before .before .before .before .before .before .before .before .args in
+    c .room-ok .result ≡ not (shortLists (length (allCells (a .width) (a .height) (a .cells .now) (a .rectangles .now) (length (a .rectangles .now) / 4))) (length (a .rectangles .now) / 4) (a .indices) (a .ends))
+room-told c =
+    let a = c .before .before .before .before .before .before .before .before .before .args in
+    c .room-ok .ensures ∙ ap (λ (m : ℕ). not (shortLists m (length (a .rectangles .now) / 4) (a .indices) (a .ends))) (c .before .count-all .ensures)
+
 returns-4 : tie.Need-returns-4
 unfolding verdictOf
 returns-4 c =
-    let a = c .before .before .before .before .before .before .before .before .before .args in
-    indices-short (a .width) (a .height) (a .cells .now) (a .rectangles .now) (a .indices) (a .ends) (good-all (c .before .before)) (omega (arith, c .if4 .taken, c .before .count-all .ensures))
+    let a = c .before .before .before .before .before .before .before .before .before .before .args in
+    room-refused (a .width) (a .height) (a .cells .now) (a .rectangles .now) (a .indices) (a .ends) (good-all (c .before .before .before)) (found-bad (room-told (c .before)) (c .if4 .taken))
 
 returns-5 : tie.Need-returns-5
 unfolding verdictOf
 returns-5 c =
     let a = c .before .before .before .before .before .before .before .before .before .before .args in
-    let j = good-all (c .before .before .before) in
-    ends-short (a .width) (a .height) (a .cells .now) (a .rectangles .now) (a .indices) (a .ends) j (omega (arith, c .before .if4 .left, c .before .before .count-all .ensures)) (omega (arith, c .if5 .taken, j .good, c .before .before .before .before .accepted .ensures))
-
-returns-6 : tie.Need-returns-6
-unfolding verdictOf
-returns-6 c =
-    let a = c .before .before .before .before .before .before .before .before .before .before .args in
-    let j = good-all (c .before .before .before) in
-    none-short (a .width) (a .height) (a .cells .now) (a .rectangles .now) (a .indices) (a .ends) j (omega (arith, c .before .if4 .left, c .before .before .count-all .ensures)) (omega (arith, c .if5 .left, j .good, c .before .before .before .before .accepted .ensures))
+    none-refused (a .width) (a .height) (a .cells .now) (a .rectangles .now) (a .indices) (a .ends) (good-all (c .before .before .before)) (found-good (room-told (c .before)) (c .if4 .left))
 
 pub judged-spec : {M : Type 1} → statement M
 judged-spec =
@@ -83,9 +89,9 @@ judged-spec =
     fours-ok-requires
     returns-2
     accepted-requires
-    cast-t14
+    cast-t15
     returns-3
     count-all-requires
+    room-ok-requires
     returns-4
-    returns-5
-    returns-6)
+    returns-5)

@@ -6,7 +6,7 @@ use lib.IntN.{ℤ}
 use Rattle.walkgraph.specs.AccessPromise.{AccessAnswer}
 use Rattle.walklaws.proofs.Promises.{clash, same-number}
 use Rattle.manyrectangles.specs.Lent.{ListsLent}
-use Rattle.accesslists.specs.AccessListsPromise.{AccessListsPromise, refuses, lists}
+use Rattle.listspromise.specs.AccessListsPromise.{AccessListsPromise, refuses, lists}
 
 pub access-lists-one : (width height : ℕ) (cells : List ℕ) (rectangles : List ℤ) (before : ListsLent) {d e : ListsLent} {a b : AccessAnswer} →
     AccessListsPromise width height cells rectangles before d a → AccessListsPromise width height cells rectangles before e b → (d ≡ e) × (a ≡ b)

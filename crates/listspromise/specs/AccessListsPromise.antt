@@ -1,6 +1,6 @@
 -- Document 01, "The promises themselves": what the access cells of many rectangles promise, for every input.
 use mathlib.Core.Path.{_≡_}
-use mathlib.Core.Bool.{_||_}
+use mathlib.Core.Bool.{Bool, _||_}
 use mathlib.Core.List.{List}
 use Prim.Native.Nat.{ℕ, _/_}
 use lib.ListN.{length}
@@ -11,8 +11,11 @@ use Rattle.walkgraph.specs.AccessPromise.{AccessAnswer, refusal, listed}
 use Rattle.manyrectangles.specs.AllCells.{allCells}
 use Rattle.manyrectangles.specs.Lent.{ListsLent, listedIn}
 
--- "Access: 1, 4, 7", each as the field call has it, and 3 COUNT before 4: numbers not in fours or, as for fields, n > 512. 7 SCRATCH, "a lent buffer
--- is shorter than needed": fewer indices than all access cells together, or fewer ends than rectangles.
+-- 7 SCRATCH, "a lent buffer is shorter than needed": fewer indices than all access cells together, or fewer ends than rectangles
+unfoldable pub shortLists : ℕ → ℕ → ℕ → ℕ → Bool
+shortLists count rectangles indices ends = ltb indices count || ltb ends rectangles
+
+-- "Access: 1, 4, 7", each as the field call has it, and 3 COUNT before 4: numbers not in fours or, as for fields, n > 512
 unfoldable pub listsVerdict : ℕ → ℕ → List ℕ → List ℤ → ℕ → ℕ → Verdict
 listsVerdict width height cells rectangles indices ends =
     let n = length rectangles / 4 in
@@ -20,7 +23,7 @@ listsVerdict width height cells rectangles indices ends =
     judge (badGrid width height cells) 1 0
     (judge (badFours 512 rectangles) 3 0
     (judge (ltb bad n) 4 bad
-    (judge (ltb indices (length (allCells width height cells rectangles n)) || ltb ends n) 7 0 accepted)))
+    (judge (shortLists (length (allCells width height cells rectangles n)) n indices ends) 7 0 accepted)))
 
 -- the answer and both lent buffers after the call, where they held `before`
 pub data AccessListsPromise (width height : ℕ) (cells : List ℕ) (rectangles : List ℤ) (before : ListsLent) : ListsLent → AccessAnswer → Type 0 where

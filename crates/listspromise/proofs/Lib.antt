@@ -1,0 +1,2 @@
+-- The promise determines the results.
+pub mod AccessListsCall

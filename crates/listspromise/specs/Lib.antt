@@ -1,0 +1,2 @@
+-- What access of many rectangles promises.
+pub mod AccessListsPromise
