@@ -10,7 +10,9 @@ use lib.ListN.{getD, set, length}
 use mir.Syntax.{w64}
 use mir.Val.{Fits}
 use Rattle.ways.specs.Row.{RowDone}
-use Rattle.row.specs.Visits.{Ground, State, first, past, Visited, done}
+use Rattle.pulls.specs.Pulls.{Pulls}
+use Rattle.pulls.proofs.Pulled.{skipped-same, due-set}
+use Rattle.row.specs.Visits.{Ground, State, first, past, Visited, skipped, done}
 use Rattle.lane.specs.Levels.{LaneCount}
 use Rattle.ways.specs.Buffers.{RowFits}
 use Rattle.row.specs.Buffers.{VisitFits}
@@ -80,13 +82,23 @@ visit-numbers {lanes} {stride} {own} {feed} {rows} fits r c b v =
       feed-cell = λ h. omega (arith, h, last, fed, c);
     }
 
--- a row that was done, by the answer
-module _ {g : Ground} {down fresh answer : Bool} {y z : ℕ} {s : State} {levels : ℕ → ℕ} (some : first g y < past g y) (due : ¬ (getD (s .pulled) y 0 ≡ getD (s .versions) z 0))
-    (row : RowDone (g .lanes) (g .flag) down ((y * g .stride + first g y) * g .lanes) ((z * g .stride + first g y) * g .lanes) (y * g .stride + first g y) (past g y - first g y) (s .levels) levels fresh answer) where
-  pub done-changed : (version pull : ℕ) → answer ≡ true → version ≡ (getD (s .versions) y 0 + 1) % 2 ^ 32 → pull ≡ getD (s .versions) z 0 →
-      Visited g down fresh y z s (record { levels = levels; versions = set (s .versions) y version; pulled = set (s .pulled) y pull; changed = true })
-  done-changed version pull e f q = rw (f, q) (done {changed = true} some due (rw e at row))
+-- a row that is not empty and was skipped
+pub row-skipped : {g : Ground} {down fresh skips : Bool} {y z : ℕ} {s : State} {after : List ℕ} → first g y < past g y → Pulls (getD (s .versions) z 0) y (s .pulled) after skips → skips ≡ true →
+    Visited g down fresh y z s (record { levels = s .levels; versions = s .versions; pulled = after; changed = s .changed })
+row-skipped some pulls e =
+    let same = skipped-same (rw e at pulls) in
+    rw (same .1) (skipped some (same .0))
 
-  pub done-same : (pull : ℕ) → answer ≡ false → pull ≡ getD (s .versions) z 0 →
-      Visited g down fresh y z s (record { levels = levels; versions = s .versions; pulled = set (s .pulled) y pull; changed = s .changed })
-  done-same pull e q = rw q (done {changed = false} some due (rw e at row))
+-- one that was done, by the answer
+module _ {g : Ground} {down fresh skips answer : Bool} {y z : ℕ} {s : State} {after : List ℕ} {levels : ℕ → ℕ} (some : first g y < past g y) (pulls : Pulls (getD (s .versions) z 0) y (s .pulled) after skips) (goes : skips ≡ false)
+    (row : RowDone (g .lanes) (g .flag) down ((y * g .stride + first g y) * g .lanes) ((z * g .stride + first g y) * g .lanes) (y * g .stride + first g y) (past g y - first g y) (s .levels) levels fresh answer) where
+  pub done-changed : (version : ℕ) → answer ≡ true → version ≡ (getD (s .versions) y 0 + 1) % 2 ^ 32 →
+      Visited g down fresh y z s (record { levels = levels; versions = set (s .versions) y version; pulled = after; changed = true })
+  done-changed version e f =
+      let pulled = due-set (rw goes at pulls) in
+      rw (f, pulled .1) (done {changed = true} some (pulled .0) (rw e at row))
+
+  pub done-same : answer ≡ false → Visited g down fresh y z s (record { levels = levels; versions = s .versions; pulled = after; changed = s .changed })
+  done-same e =
+      let pulled = due-set (rw goes at pulls) in
+      rw (pulled .1) (done {changed = false} some (pulled .0) (rw e at row))

@@ -1,5 +1,6 @@
 // The visit of one row: skipped where the row that feeds it has the version that it last pulled.
 use crate::row;
+use pulls;
 ghost use mathlib.Core.Path.{_≡_};
 ghost use Prim.Native.Nat.{_+_, _^_, _<_};
 ghost use lib.ListN.{length};
@@ -48,11 +49,9 @@ pub fn visit(
     if b <= a {
         return changed;
     }
-    let version = versions[feed];
-    if pulled[own] == version {
+    if pulls::skips(pulled, own, versions[feed]) {
         return changed;
     }
-    pulled[own] = version;
     let first = own * stride + a;
     let feeding = feed * stride + a;
     if row::relax(

@@ -8,7 +8,7 @@ use native.Mathlib.Numerals.{add-one}
 use native.Mathlib.Decide.{decLe, ℕ-discrete}
 use native.Mathlib.Omega.{arith}
 use lib.Dec.{leb, eqb}
-use borrow.Author.Tests.{eq-eqb, ne-eqb, le-leb, lt-leb}
+use borrow.Author.Tests.{eqb-false, ne-eqb, le-leb, lt-leb}
 use Rattle.walkgraph.proofs.Tests.{by-cases}
 use Rattle.row.specs.Visits.{Ground, State, rowAt, feedAt, Visited}
 use Rattle.sweep.specs.Sweeps.{Run, Turns, more, begins, leaves, goesDown, OneSweep, Sweeps, start, next, Ended}
@@ -58,16 +58,12 @@ turns-more {n = n} w e f v = rw (add-one n) (more w (rw (e, f) at v))
 -- ---- one of the alternating sweeps
 
 module _ {g : Ground} {height n : ℕ} {r : Run} {s : State} where
-  pub sweep-down : n % 2 ≡ 0 → Turns g true (eqb n 0) height (begins true r) height s → OneSweep g height n r (leaves true r s) (s .changed)
-  sweep-down e w =
-      let d : goesDown n ≡ true = eq-eqb (n % 2) 0 e in
-      record { state = s; turns = rw d w; leaves-it = rw d; answers = refl }
+  pub sweep-down : goesDown n ≡ true → Turns g true (eqb n 0) height (begins true r) height s → OneSweep g height n r (leaves true r s) (s .changed)
+  sweep-down d w = record { state = s; turns = rw d w; leaves-it = rw d; answers = refl }
 
-  pub sweep-up : ¬ (n % 2 ≡ 0) → Turns g false false height (begins false r) height s → OneSweep g height n r (leaves false r s) (s .changed)
-  sweep-up e w =
-      let d : goesDown n ≡ false = ne-eqb (n % 2) 0 e in
-      let z : ¬ (n ≡ 0) = λ q. e (rw q refl) in
-      let f : eqb n 0 ≡ false = ne-eqb n 0 z in
+  pub sweep-up : goesDown n ≡ false → Turns g false false height (begins false r) height s → OneSweep g height n r (leaves false r s) (s .changed)
+  sweep-up d w =
+      let f : eqb n 0 ≡ false = ne-eqb n 0 (λ q. eqb-false (n % 2) 0 d (rw q refl)) in
       record { state = s; turns = rw (d, f) w; leaves-it = rw d; answers = refl }
 
 -- ---- the run

@@ -65,7 +65,7 @@ pub fn alternate(
         (runOf (now (lanes .entry)) (now (versions .entry)) (now («pulled_down» .entry)) (now («pulled_up» .entry)))
         (runOf (now (lanes .exit)) (now (versions .exit)) (now («pulled_down» .exit)) (now («pulled_up» .exit))) r ⌝ }
 {
-    if number % 2 == 0 {
+    if quietsweep::down(number) {
         return sweep(
             lanes,
             flags,

@@ -2,8 +2,8 @@
 use mathlib.Core.Path.{refl}
 use Prim.Native.Nat.{ℕ, _-_, _*_, _≤_, _<_}
 use native.Mathlib.Omega.{arith}
-use Rattle.row.specs.Visits.{empty, skipped}
-use Rattle.row.proofs.Windows.{VisitNumbers, visit-numbers, row-fits, done-changed, done-same}
+use Rattle.row.specs.Visits.{empty}
+use Rattle.row.proofs.Windows.{VisitNumbers, visit-numbers, row-fits, row-skipped, done-changed, done-same}
 use lib.ListN.{length-set}
 use denote.Ref.{now}
 use Rattle.row.proofs.visit.visit.Statement.{statement}
@@ -49,80 +49,74 @@ cast-b c = numbers (c .before .before) .past
 returns : tie.Need-returns
 returns c = empty (c .if1 .taken)
 
-mul-version : tie.Need-mul-version
-mul-version c = numbers (c .before .before .before) .feed-bytes
+mul-skips : tie.Need-mul-skips
+mul-skips c = numbers (c .before .before .before .before) .feed-bytes
 
-slice-read-version : tie.Need-slice-read-version
-slice-read-version c = c .before .before .before .before .before .before .before .before .pre .1 .version-feed
+slice-read-skips : tie.Need-slice-read-skips
+slice-read-skips c = c .before .before .before .before .before .before .before .before .before .pre .1 .version-feed
 
-mul-if2 : tie.Need-mul-if2
-mul-if2 c = numbers (c .before .before .before .before) .own-bytes
+skips-requires : tie.Need-skips-requires
+skips-requires c κs = c .before .before .before .before .before .before .before .before .before .pre .1 .pulled-own
 
-slice-read-if2 : tie.Need-slice-read-if2
-slice-read-if2 c = c .before .before .before .before .before .before .before .before .before .pre .1 .pulled-own
+same-length : tie.Need-same-length
+same-length c = c .before .before .before .skips .kept .0
 
 returns-2 : tie.Need-returns-2
-returns-2 c = skipped (c .before .before .before .if1 .left) (c .if2 .taken)
-
-mul-pulled : tie.Need-mul-pulled
-mul-pulled c = numbers (c .before .before .before .before .before .before) .own-bytes
-
-slice-write-pulled : tie.Need-slice-write-pulled
-slice-write-pulled c = c .before .before .before .before .before .before .before .before .before .before .pre .1 .pulled-own
+returns-2 c = row-skipped (c .before .before .before .before .before .before .if1 .left) (c .before .before .before .skips .ensures) (c .if2 .taken)
 
 mul-first : tie.Need-mul-first
-mul-first c = numbers (c .before .before .before .before .before .before) .own-row
+mul-first c = numbers (c .before .before .before .before .before .before .before .before .before) .own-row
 
 add-first : tie.Need-add-first
-add-first c = numbers (c .before .before .before .before .before .before) .own-cell (c .before .before .before .if1 .left)
+add-first c = numbers (c .before .before .before .before .before .before .before .before .before) .own-cell (c .before .before .before .before .before .before .if1 .left)
 
 mul-feeding : tie.Need-mul-feeding
-mul-feeding c = numbers (c .before .before .before .before .before .before) .feed-row
+mul-feeding c = numbers (c .before .before .before .before .before .before .before .before .before) .feed-row
 
 add-feeding : tie.Need-add-feeding
-add-feeding c = numbers (c .before .before .before .before .before .before) .feed-cell (c .before .before .before .if1 .left)
+add-feeding c = numbers (c .before .before .before .before .before .before .before .before .before) .feed-cell (c .before .before .before .before .before .before .if1 .left)
 
 sub-relax : tie.Need-sub-relax
-sub-relax c = lower _ _ (c .before .before .before .before .if1 .left)
+sub-relax c = lower _ _ (c .before .before .before .before .before .before .before .if1 .left)
 
 relax-requires : tie.Need-relax-requires
-relax-requires c κs = (c .before .before .before .before .before .before .before .before .before .before .before .pre .0, c .before .before .before .before .before .before .before .before .before .before .before .pre .1 .count, row-fits (c .before .before .before .before .before .before .before .before .before .before .before .pre .1) (c .before .before .before .before .if1 .left))
+relax-requires c κs = (c .before .before .before .before .before .before .before .before .before .before .before .before .before .before .pre .0, c .before .before .before .before .before .before .before .before .before .before .before .before .before .before .pre .1 .count, row-fits (c .before .before .before .before .before .before .before .before .before .before .before .before .before .before .pre .1) (c .before .before .before .before .before .before .before .if1 .left))
 
 mul-wrapping-add-u32 : tie.Need-mul-wrapping-add-u32
-mul-wrapping-add-u32 c = numbers (c .before .before .before .before .before .before .before .before .before .before) .own-bytes
+mul-wrapping-add-u32 c = numbers (c .before .before .before .before .before .before .before .before .before .before .before .before .before) .own-bytes
 
 slice-read-wrapping-add-u32 : tie.Need-slice-read-wrapping-add-u32
-slice-read-wrapping-add-u32 c = c .before .before .before .before .before .before .before .before .before .before .before .before .before .before .before .pre .1 .version-own
+slice-read-wrapping-add-u32 c = c .before .before .before .before .before .before .before .before .before .before .before .before .before .before .before .before .before .before .pre .1 .version-own
 
 wrapping-add-u32-requires : tie.Need-wrapping-add-u32-requires
 wrapping-add-u32-requires c κs = tt
 
 mul-versions : tie.Need-mul-versions
-mul-versions c = numbers (c .before .before .before .before .before .before .before .before .before .before .before .before) .own-bytes
+mul-versions c = numbers (c .before .before .before .before .before .before .before .before .before .before .before .before .before .before .before) .own-bytes
 
 slice-write-versions : tie.Need-slice-write-versions
-slice-write-versions c = c .before .before .before .before .before .before .before .before .before .before .before .before .before .before .before .before .pre .1 .version-own
-
-same-length : tie.Need-same-length
-same-length c = c .before .before .before .before .relax .kept .0
+slice-write-versions c = c .before .before .before .before .before .before .before .before .before .before .before .before .before .before .before .before .before .before .before .pre .1 .version-own
 
 same-length-2 : tie.Need-same-length-2
-same-length-2 c = simp length-set refl
+same-length-2 c = c .before .before .before .before .relax .kept .0
 
 same-length-3 : tie.Need-same-length-3
 same-length-3 c = simp length-set refl
 
-returns-3 : tie.Need-returns-3
-returns-3 c = done-changed (c .before .before .before .before .before .before .before .before .before .if1 .left) (c .before .before .before .before .before .before .if2 .left) (c .before .before .before .before .relax .ensures) _ _ (c .before .before .if3 .taken) (c .wrapping-add-u32 .ensures) refl
-
 same-length-4 : tie.Need-same-length-4
-same-length-4 c = c .before .before .relax .kept .0
+same-length-4 c = c .before .before .before .before .before .before .before .before .before .skips .kept .0
+
+returns-3 : tie.Need-returns-3
+returns-3 c = done-changed (c .before .before .before .before .before .before .before .before .before .before .before .before .if1 .left) (c .before .before .before .before .before .before .before .before .before .skips .ensures) (c .before .before .before .before .before .before .if2 .left) (c .before .before .before .before .relax .ensures) _ (c .before .before .if3 .taken) (c .wrapping-add-u32 .ensures)
 
 same-length-5 : tie.Need-same-length-5
-same-length-5 c = simp length-set refl
+same-length-5 c = c .before .before .relax .kept .0
+
+same-length-6 : tie.Need-same-length-6
+same-length-6 c = c .before .before .before .before .before .before .before .skips .kept .0
 
 returns-4 : tie.Need-returns-4
-returns-4 c = done-same (c .before .before .before .before .before .before .before .if1 .left) (c .before .before .before .before .if2 .left) (c .before .before .relax .ensures) _ (c .if3 .left) refl
+returns-4 c = done-same (c .before .before .before .before .before .before .before .before .before .before .if1 .left) (c .before .before .before .before .before .before .before .skips .ensures) (c .before .before .before .before .if2 .left) (c .before .before .relax .ensures) (c .if3 .left)
 
 pub visit-spec : {M : Type 1} → statement M
 visit-spec =
@@ -139,13 +133,11 @@ visit-spec =
     shared-slice-read-b
     cast-b
     returns
-    mul-version
-    slice-read-version
-    mul-if2
-    slice-read-if2
+    mul-skips
+    slice-read-skips
+    skips-requires
+    same-length
     returns-2
-    mul-pulled
-    slice-write-pulled
     mul-first
     add-first
     mul-feeding
@@ -157,10 +149,10 @@ visit-spec =
     wrapping-add-u32-requires
     mul-versions
     slice-write-versions
-    same-length
     same-length-2
     same-length-3
-    returns-3
     same-length-4
+    returns-3
     same-length-5
+    same-length-6
     returns-4)

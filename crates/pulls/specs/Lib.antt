@@ -1,0 +1,2 @@
+-- What a row pulls.
+pub mod Pulls
