@@ -6,6 +6,7 @@ use cells::boxes::CellBox;
 use judge::verdict::Verdict;
 use refusals;
 use rings::ring;
+use rowbuffers;
 use window::record;
 use window::record::Window;
 ghost use mathlib.Core.Path.{_≡_};
@@ -47,16 +48,13 @@ pub fn room_ok(window: Window, lent: Lent) -> bool
     if lent.flags < cells {
         return false;
     }
-    if lent.rows < 2 * window.height {
-        return false;
-    }
-    if lent.versions < window.height + 2 {
-        return false;
-    }
-    if lent.pulled_down < window.height + 2 {
-        return false;
-    }
-    window.height + 2 <= lent.pulled_up
+    rowbuffers::enough(
+        window.height,
+        lent.rows,
+        lent.versions,
+        lent.pulled_down,
+        lent.pulled_up,
+    )
 }
 
 // The site of accepted resources and targets.

@@ -54,89 +54,21 @@ returns-3 c =
       lt-leb cells (a .lent .flags) (omega (arith, c .if3 .taken)),
     )
 
-mul-if4 : tie.Need-mul-if4
-mul-if4 c = search needs
+enough-requires : tie.Need-enough-requires
+enough-requires c κs = c .before .before .before .before .before .before .before .before .pre .1
 
 returns-4 : tie.Need-returns-4
 unfolding enough
 returns-4 c =
-    let a = c .before .before .before .before .before .before .before .before .before .before .before .args in
-    let cells = c .before .before .before .before .before .before .before .before .before .before .padded .result in
+    let a = c .before .before .before .before .before .before .before .before .before .args in
+    let cells = c .before .before .before .before .before .before .before .before .padded .result in
     rw (
-      sym (c .before .before .before .before .before .before .before .before .before .before .padded .ensures),
-      le-leb (cells * a .window .lanes) (a .lent .lanes) (omega (arith, c .before .before .before .before .before .before .before .if1 .left)),
-      le-leb cells (a .lent .walk) (omega (arith, c .before .before .before .before .before .if2 .left)),
-      le-leb cells (a .lent .flags) (omega (arith, c .before .before .before .if3 .left)),
-      lt-leb (2 * a .window .height) (a .lent .rows) (omega (arith, c .if4 .taken)),
+      sym (c .before .before .before .before .before .before .before .before .padded .ensures),
+      le-leb (cells * a .window .lanes) (a .lent .lanes) (omega (arith, c .before .before .before .before .before .if1 .left)),
+      le-leb cells (a .lent .walk) (omega (arith, c .before .before .before .if2 .left)),
+      le-leb cells (a .lent .flags) (omega (arith, c .before .if3 .left)),
     )
-
-add-if5 : tie.Need-add-if5
-add-if5 c = search needs
-
-returns-5 : tie.Need-returns-5
-unfolding enough
-returns-5 c =
-    let a = c .before .before .before .before .before .before .before .before .before .before .before .before .before .before .args in
-    let cells = c .before .before .before .before .before .before .before .before .before .before .before .before .before .padded .result in
-    rw (
-      sym (c .before .before .before .before .before .before .before .before .before .before .before .before .before .padded .ensures),
-      le-leb (cells * a .window .lanes) (a .lent .lanes) (omega (arith, c .before .before .before .before .before .before .before .before .before .before .if1 .left)),
-      le-leb cells (a .lent .walk) (omega (arith, c .before .before .before .before .before .before .before .before .if2 .left)),
-      le-leb cells (a .lent .flags) (omega (arith, c .before .before .before .before .before .before .if3 .left)),
-      le-leb (2 * a .window .height) (a .lent .rows) (omega (arith, c .before .before .before .if4 .left)),
-      lt-leb (a .window .height + 2) (a .lent .versions) (omega (arith, c .if5 .taken)),
-    )
-
-add-if6 : tie.Need-add-if6
-add-if6 c = search needs
-
-returns-6 : tie.Need-returns-6
-unfolding enough
-returns-6 c =
-    let a = c .before .before .before .before .before .before .before .before .before .before .before .before .before .before .before .before .before .args in
-    let cells = c .before .before .before .before .before .before .before .before .before .before .before .before .before .before .before .before .padded .result in
-    rw (
-      sym (c .before .before .before .before .before .before .before .before .before .before .before .before .before .before .before .before .padded .ensures),
-      le-leb (cells * a .window .lanes) (a .lent .lanes) (omega (arith, c .before .before .before .before .before .before .before .before .before .before .before .before .before .if1 .left)),
-      le-leb cells (a .lent .walk) (omega (arith, c .before .before .before .before .before .before .before .before .before .before .before .if2 .left)),
-      le-leb cells (a .lent .flags) (omega (arith, c .before .before .before .before .before .before .before .before .before .if3 .left)),
-      le-leb (2 * a .window .height) (a .lent .rows) (omega (arith, c .before .before .before .before .before .before .if4 .left)),
-      le-leb (a .window .height + 2) (a .lent .versions) (omega (arith, c .before .before .before .if5 .left)),
-      lt-leb (a .window .height + 2) (a .lent .«pulled_down») (omega (arith, c .if6 .taken)),
-    )
-
-add-result : tie.Need-add-result
-add-result c = search needs
-
-returns-7 : tie.Need-returns-7
-unfolding enough
-returns-7 c =
-    let a = c .before .before .before .before .before .before .before .before .before .before .before .before .before .before .before .before .before .before .before .args in
-    let cells = c .before .before .before .before .before .before .before .before .before .before .before .before .before .before .before .before .before .before .padded .result in
-    rw (
-      sym (c .before .before .before .before .before .before .before .before .before .before .before .before .before .before .before .before .before .before .padded .ensures),
-      le-leb (cells * a .window .lanes) (a .lent .lanes) (omega (arith, c .before .before .before .before .before .before .before .before .before .before .before .before .before .before .before .if1 .left)),
-      le-leb cells (a .lent .walk) (omega (arith, c .before .before .before .before .before .before .before .before .before .before .before .before .before .if2 .left)),
-      le-leb cells (a .lent .flags) (omega (arith, c .before .before .before .before .before .before .before .before .before .before .before .if3 .left)),
-      le-leb (2 * a .window .height) (a .lent .rows) (omega (arith, c .before .before .before .before .before .before .before .before .if4 .left)),
-      le-leb (a .window .height + 2) (a .lent .versions) (omega (arith, c .before .before .before .before .before .if5 .left)),
-      le-leb (a .window .height + 2) (a .lent .«pulled_down») (omega (arith, c .before .before .if6 .left)),
-    )
+    (c .enough .ensures)
 
 pub room-ok-spec : {M : Type 1} → statement M
-room-ok-spec =
-    tie.close
-    (tie.spec
-    padded-requires
-    mul-if1
-    returns
-    returns-2
-    returns-3
-    mul-if4
-    returns-4
-    add-if5
-    returns-5
-    add-if6
-    returns-6
-    add-result
-    returns-7)
+room-ok-spec = tie.close (tie.spec padded-requires mul-if1 returns returns-2 returns-3 enough-requires returns-4)
