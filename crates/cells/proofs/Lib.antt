@@ -1,4 +1,3 @@
--- Laws of tests, casts and gaps.
+-- Laws of tests and casts.
 pub mod Bools
 pub mod Casts
-pub mod Gaps

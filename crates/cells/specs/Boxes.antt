@@ -1,9 +1,6 @@
--- The code's boxes as those of the walk graph, and the inside of a window by row.
-use mathlib.Core.Bool.{Bool}
-use Prim.Native.Nat.{ℕ, _+_, _*_, _≤_, _<_}
-use lib.Dec.{leb}
+-- The code's boxes as those of the walk graph.
+use Prim.Native.Nat.{ℕ, _≤_, _<_}
 use Rattle.walkgraph.specs.Map.{Box}
-use Rattle.walkgraph.specs.Window.{gap, octile}
 use Rattle.cells.specs.declared.boxes.CellBox.{CellBox}
 
 -- how far a walk in the cap reaches, in straight steps: the code's REACH
@@ -20,14 +17,3 @@ pub record InMap (width height : ℕ) (b : Box) : Type 0 where
   pub wide : b .right < width
   pub along : b .top ≤ b .bottom
   pub tall : b .bottom < height
-
--- a box of cells of a map, at least one column wide, and the gap of a row of the map to it
-pub record Beside (b : CellBox) (rowGap : ℕ) : Type 0 where
-  pub ends : b .left ≤ b .right
-  pub near : b .left ≤ 1024
-  pub gap : rowGap ≤ 1024
-
--- "A cell is inside if its octile gap to S plus that to T is at most 96,000": in the row whose gaps to S and T are given
-unfoldable pub insideInRow : ℕ → Box → ℕ → Box → ℕ → ℕ → Bool
-insideInRow reach s sourceGap t targetGap x =
-    leb (octile (gap x (s .left) (s .right)) sourceGap + octile (gap x (t .left) (t .right)) targetGap) (1000 * reach)

@@ -1,2 +1,2 @@
--- The code's boxes as those of the walk graph, and what the functions over them assume.
+-- The code's boxes as those of the walk graph.
 pub mod Boxes

@@ -1,12 +1,7 @@
-// Edges: of numbers, of pixels, and of the window.
+// Edges of numbers and of pixels.
 ghost use mathlib.Core.Path.{_≡_};
 ghost use Prim.Native.Nat.{_+_, _*_, _-_, _/_, _≤_, min, max};
 ghost use Rattle.walkgraph.specs.Painting.{clamp};
-ghost use Rattle.walkgraph.specs.Window.{floorHalf, windowLow, windowHigh};
-ghost use Rattle.cells.specs.Boxes.{reach};
-
-// How far a walk in the cap reaches, in straight steps.
-pub const REACH: usize = 96;
 
 // The lesser of two numbers.
 pub fn least(x: usize, y: usize) -> usize
@@ -53,29 +48,4 @@ pub fn cell_past(pixel: usize) -> usize
     ensures { λ r. ⌜ r ≡ (pixel + 7) / 8 ⌝ }
 {
     (pixel + 7) / 8
-}
-
-// Half a sum, rounded toward minus infinity.
-pub fn half(sum: i32) -> i32
-    ensures { λ r. ⌜ r ≡ floorHalf sum ⌝ }
-{
-    sum >> 1
-}
-
-// The window's first column or row, from those of the sources and the targets.
-pub fn low(source: usize, target: usize) -> usize
-    requires { ⌜ (source ≤ 1024) × (target ≤ 1024) ⌝ }
-    ensures { λ r. ⌜ r ≡ windowLow reach source target ⌝ }
-{
-    let edge = half(source as i32 + target as i32 - REACH as i32);
-    if edge < 0 { 0 } else { edge as usize }
-}
-
-// The window's last column or row, on a map of size columns or rows.
-pub fn high(source: usize, target: usize, size: usize) -> usize
-    requires { ⌜ (source ≤ 1024) × (target ≤ 1024) × (1 ≤ size) ⌝ }
-    ensures { λ r. ⌜ r ≡ windowHigh reach size source target ⌝ }
-{
-    let edge = half(source as i32 + target as i32 + REACH as i32);
-    least(edge as usize, size - 1)
 }

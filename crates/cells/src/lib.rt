@@ -1,4 +1,3 @@
-// Pixels to cells, window edges, gaps and the inside: document 01, "Ring" to "Inside", in numbers.
+// Pixels to cells, and boxes of cells: document 01, "Ring" and "Window", in numbers.
 pub mod boxes;
 pub mod edge;
-pub mod gap;

@@ -14,7 +14,7 @@ use Rattle.walkgraph.proofs.Lists.{first-from, IsPast, nobody, somebody, past-l
 use Rattle.cells.specs.declared.boxes.CellBox.{CellBox}
 use Rattle.cells.specs.Boxes.{reach, boxOf}
 use Rattle.cells.proofs.Bools.{both}
-use Rattle.cells.proofs.Gaps.{beside, inside-in-row}
+use Rattle.gaps.proofs.Gaps.{beside, inside-in-row}
 use Rattle.window.specs.declared.record.Window.{Window}
 use Rattle.intervals.specs.Intervals.{InRow, insideGaps, insideColumns, RowEnds}
 

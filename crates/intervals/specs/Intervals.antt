@@ -6,7 +6,8 @@ use Rattle.walkgraph.specs.Lists.{firstFrom, pastLast}
 use Rattle.walkgraph.specs.Map.{Box}
 use Rattle.walkgraph.specs.Window.{inside}
 use Rattle.cells.specs.declared.boxes.CellBox.{CellBox}
-use Rattle.cells.specs.Boxes.{reach, boxOf, InMap, Beside, insideInRow}
+use Rattle.cells.specs.Boxes.{reach, boxOf, InMap}
+use Rattle.gaps.specs.Inside.{Beside, insideInRow}
 use Rattle.window.specs.declared.record.Window.{Window}
 use Rattle.intervals.specs.declared.rows.RowGaps.{RowGaps}
 use Rattle.window.specs.Fills.{rowsPlaced}

@@ -1,6 +1,6 @@
 // Row intervals: the first inside column of each row and one past the last, counted with padding.
 use cells::boxes::CellBox;
-use cells::gap;
+use gaps;
 use window::record::Window;
 ghost use mathlib.Core.Path.{_≡_};
 ghost use mathlib.Core.Bool.{not, _&&_};
@@ -30,7 +30,7 @@ pub fn outside_before(window: Window, gaps: RowGaps, column: usize) -> bool
     }
     let sources = gaps.sources;
     let targets = gaps.targets;
-    !gap::inside(
+    !gaps::inside(
         window.left + column,
         sources,
         gaps.source,
@@ -62,7 +62,7 @@ pub fn outside_after(window: Window, gaps: RowGaps, first: usize, count: usize) 
     let sources = gaps.sources;
     let targets = gaps.targets;
     let x = window.left + (window.width - 1 - count);
-    !gap::inside(x, sources, gaps.source, targets, gaps.target)
+    !gaps::inside(x, sources, gaps.source, targets, gaps.target)
 }
 
 // The columns after the last inside one, of those from the first inside one on.
@@ -85,8 +85,8 @@ pub fn write_row(rows: &mut [u16], window: Window, sources: CellBox, targets: Ce
     let gaps = RowGaps {
         sources,
         targets,
-        source: gap::gap(window.top + y, sources.top, sources.bottom),
-        target: gap::gap(window.top + y, targets.top, targets.bottom),
+        source: gaps::gap(window.top + y, sources.top, sources.bottom),
+        target: gaps::gap(window.top + y, targets.top, targets.bottom),
     };
     let first = first_inside(window, gaps);
     let after = after_inside(window, gaps, first);

@@ -14,7 +14,8 @@ use Rattle.walkgraph.specs.Ring.{pixel}
 use Rattle.walkgraph.specs.Refusals.{badGrid, badLanes, badFours, badSpan}
 use Rattle.walkgraph.proofs.Tests.{by-cases}
 use Rattle.cells.proofs.Bools.{clash, both}
-use Rattle.judge.specs.Grids.{greatest, inLimits}
+use Rattle.greatestbyte.specs.Greatest.{greatest}
+use Rattle.judge.specs.Grids.{inLimits}
 use Rattle.judge.proofs.Grids.{good-grid}
 
 -- ---- a size

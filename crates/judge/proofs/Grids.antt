@@ -1,28 +1,17 @@
--- The greatest byte of a grid as a loop finds it, and the test of a grid as the code makes it.
+-- The greatest byte of a grid, and the test of a grid as the code makes it.
 use mathlib.Core.Path.{_≡_, sym}
 use mathlib.Core.Bool.{not, _&&_, and-assoc, Bool·not-not}
 use mathlib.Core.List.{List, [], _∷_}
-use Prim.Native.Nat.{ℕ, zero, suc, _+_, _*_, _≤_, _<_, max}
+use Prim.Native.Nat.{ℕ, zero, suc, _*_, _≤_, max}
 use native.Mathlib.Omega.{arith}
 use native.Mathlib.Decide.{decLe}
-use native.Mathlib.Numerals.{add-one}
-use lib.ListN.{length, getD, drop, drop-of-length-le}
-use lib.Seq.{drop-cons}
+use lib.ListN.{length, getD}
 use lib.Dec.{leb, eqb}
 use borrow.Author.Tests.{le-leb, lt-leb}
 use Rattle.walkgraph.specs.Refusals.{badGrid, all}
 use Rattle.walkgraph.proofs.Tests.{by-cases, leb-eq}
-use Rattle.judge.specs.Grids.{greatest, inLimits}
-
--- ---- `high` is the greatest of the first k bytes: it and the others make the greatest of all
-module _ (cells : List ℕ) (high k : ℕ) where
-  pub one-more : k < length cells → max (max high (getD cells k 0)) (greatest (drop (k + 1) cells)) ≡ max high (greatest (drop k cells))
-  unfolding greatest
-  one-more i = rw (drop-cons cells k 0 i, add-one k) (omega arith)
-
-  pub all-passed : length cells ≤ k → max high (greatest (drop k cells)) ≡ high
-  unfolding greatest
-  all-passed i = rw (drop-of-length-le cells i) (omega arith)
+use Rattle.greatestbyte.specs.Greatest.{greatest}
+use Rattle.judge.specs.Grids.{inLimits}
 
 -- no byte is above it
 pub entry-least : (cells : List ℕ) (k : ℕ) → getD cells k 0 ≤ greatest cells

@@ -1,3 +1,3 @@
--- The code's verdict as document 01's, and the greatest byte of a grid.
+-- The code's verdict as document 01's, and the limits of a grid.
 pub mod Verdicts
 pub mod Grids

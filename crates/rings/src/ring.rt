@@ -1,9 +1,10 @@
 // The body and the ring box of a resource; the box around all ring boxes.
 use cells::boxes::CellBox;
 use cells::edge;
+use ringends;
 ghost use mathlib.Core.Path.{_≡_};
 ghost use mathlib.Core.Bool.{not};
-ghost use Prim.Native.Nat.{_+_, _*_, _-_, _/_, _≤_, min};
+ghost use Prim.Native.Nat.{_+_, _*_, _-_, _/_, _≤_};
 ghost use lib.ListN.{length};
 ghost use Rattle.walkgraph.specs.Painting.{rectangle};
 ghost use Rattle.walkgraph.specs.Window.{sources};
@@ -38,14 +39,6 @@ pub fn before(cell: usize) -> usize
     edge::past(1, cell)
 }
 
-// The cell after, clamped to a map of size columns or rows.
-pub fn after(cell: usize, size: usize) -> usize
-    requires { ⌜ (cell ≤ 1024) × (1 ≤ size) ⌝ }
-    ensures { λ r. ⌜ r ≡ min (size - 1) (cell + 1) ⌝ }
-{
-    edge::least(cell + 1, size - 1)
-}
-
 // The ring box and the body of a resource, or that it is none.
 pub fn ring_of(left: i32, top: i32, right: i32, bottom: i32, width: usize, height: usize) -> Ring
     requires { ⌜ (width ≤ 1024) × (height ≤ 1024) ⌝ }
@@ -66,8 +59,8 @@ pub fn ring_of(left: i32, top: i32, right: i32, bottom: i32, width: usize, heigh
     let ring = CellBox {
         left: before(body.left),
         top: before(body.top),
-        right: after(body.right, width),
-        bottom: after(body.bottom, height),
+        right: ringends::after(body.right, width),
+        bottom: ringends::after(body.bottom, height),
     };
     Ring::Present { ring, body }
 }

@@ -1,6 +1,7 @@
 // Where one lane starts: in the rows of the ring box of its resource, at the cells that are inside and walkable.
 use cells::boxes::CellBox;
 use cells::edge;
+use ringends;
 use window::record;
 use window::record::Window;
 ghost use mathlib.Core.Path.{_≡_};
@@ -27,7 +28,7 @@ pub fn start_row(
 {
     let row = y - window.top;
     let first = edge::most(ring.left + 1, rows[2 * row] as usize + window.left);
-    let past = edge::least(ring.right + 2, rows[2 * row + 1] as usize + window.left);
+    let past = ringends::past_column(ring.right, rows[2 * row + 1] as usize + window.left);
     startcells::start_cells(
         lanes,
         walk,
@@ -56,7 +57,7 @@ pub fn start_ring(
         (ringHit window (now (walk .entry)) (now (rows .entry)) (boxOf ring) (boxOf body) lane) ⌝ }
 {
     let first = edge::most(ring.top, window.top);
-    let past = edge::least(ring.bottom + 1, window.top + window.height);
+    let past = ringends::past_row(ring.bottom, window.top + window.height);
     for n in 0..edge::past(first, past) {
         start_row(lanes, walk, rows, window, ring, body, lane, first + n);
     }

@@ -1,6 +1,6 @@
 // The window record.
 use cells::boxes::CellBox;
-use cells::edge;
+use windowedges;
 ghost use mathlib.Core.Path.{_≡_};
 ghost use Prim.Native.Nat.{_+_, _*_, _≤_};
 ghost use Rattle.walkgraph.specs.Window.{window};
@@ -41,10 +41,10 @@ pub fn window_of(
     requires { ⌜ OnMap width height (boxOf sources) (boxOf targets) ⌝ }
     ensures { λ r. ⌜ r ≡ windowOver (window reach width height (boxOf sources) (boxOf targets)) lanes ⌝ }
 {
-    let left = edge::low(sources.left, targets.left);
-    let top = edge::low(sources.top, targets.top);
-    let right = edge::high(sources.right, targets.right, width);
-    let bottom = edge::high(sources.bottom, targets.bottom, height);
+    let left = windowedges::low(sources.left, targets.left);
+    let top = windowedges::low(sources.top, targets.top);
+    let right = windowedges::high(sources.right, targets.right, width);
+    let bottom = windowedges::high(sources.bottom, targets.bottom, height);
     Window {
         left,
         top,

@@ -45,10 +45,10 @@ use denote.Exit.{yes}
 use denote.Triple.Clauses.{ensured, lasts}
 use Rattle.roomlines.specs.Forms.{ReadsCount}
 use Rattle.roomlines.specs.Answers.{countFound}
-use Rattle.reader.specs.declared.Reader.{Reader}
+use Rattle.textreader.specs.declared.Reader.{Reader}
 use Rattle.roomlines.specs.declared.counts.FoundCount.{FoundCount}
-use Rattle.reader.proofs.Reader as T
-use Rattle.reader.proofs.Reader.Laws as T′
+use Rattle.textreader.proofs.Reader as T
+use Rattle.textreader.proofs.Reader.Laws as T′
 use Rattle.roomlines.proofs.counts.FoundCount as S
 use Rattle.roomlines.proofs.counts.FoundCount.Laws as S′
 use Rattle.roomlines.proofs.counts.count as read

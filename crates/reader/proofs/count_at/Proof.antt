@@ -43,17 +43,17 @@ use Rattle.roomlines.specs.Answers.{countFound}
 use Rattle.roomlines.specs.declared.counts.FoundCount.{FoundCount}
 use Rattle.roomlines.proofs.counts.FoundCount as S
 use Rattle.roomlines.proofs.counts.FoundCount.Laws as S′
-use Rattle.reader.specs.declared.Reader.{Reader}
-use Rattle.reader.proofs.Reader as T
-use Rattle.reader.proofs.Reader.Laws as T′
-use Rattle.reader.proofs.new as new
-use Rattle.reader.proofs.new.Symbol as new-def
-use Rattle.reader.proofs.new.Symbol.{name as #reader·new}
-use Rattle.reader.proofs.new.Met as new-thm
-use Rattle.reader.proofs.moved as moved
-use Rattle.reader.proofs.moved.Symbol as moved-def
-use Rattle.reader.proofs.moved.Symbol.{name as #reader·moved}
-use Rattle.reader.proofs.moved.Met as moved-thm
+use Rattle.textreader.specs.declared.Reader.{Reader}
+use Rattle.textreader.proofs.Reader as T
+use Rattle.textreader.proofs.Reader.Laws as T′
+use Rattle.textreader.proofs.new as new
+use Rattle.textreader.proofs.new.Symbol as new-def
+use Rattle.textreader.proofs.new.Symbol.{name as #textreader·new}
+use Rattle.textreader.proofs.new.Met as new-thm
+use Rattle.textreader.proofs.moved as moved
+use Rattle.textreader.proofs.moved.Symbol as moved-def
+use Rattle.textreader.proofs.moved.Symbol.{name as #textreader·moved}
+use Rattle.textreader.proofs.moved.Met as moved-thm
 use Rattle.reader.proofs.count as count
 use Rattle.reader.proofs.count.Symbol as count-def
 use Rattle.reader.proofs.count.Symbol.{name as #reader·count}
@@ -158,7 +158,7 @@ module _ {M : Type 1} (𝓤 : URA M) (H : Heap 𝓤) (A : Atoms 𝓤) (W : Given
       move ! (1 ∷ []) $ frame ! $ nothing ! $ owned ! u32 (Is u32) (uint-makes 𝓤 H A W w32) highest _ (refl, high) $ fjoin ! $ owned ! u32 (Is u32) (uint-makes 𝓤 H A W w32) lowest _ (refl, low) $ fjoin ! $
       owned ! usize (Is usize) (uint-makes 𝓤 H A W w64) n _ (refl, ok) $ fjoin ! $ move ! (2 ∷ 0 ∷ []) $ fjoin ! $ frame ! $ done !
 
-  module _ (C : Calls 𝓤 H) (Λ : Loops 𝓤 H) (fm : FmC 𝓤 H (W .laws) C) (known-new : Triple 𝓤 (C #reader·new) (New 𝓤 H A mem run)) (known-moved : Triple 𝓤 (C #reader·moved) (Moved 𝓤 H A mem run)) (known-count : Triple 𝓤 (C #reader·count) (Reads 𝓤 H A mem run)) where
+  module _ (C : Calls 𝓤 H) (Λ : Loops 𝓤 H) (fm : FmC 𝓤 H (W .laws) C) (known-new : Triple 𝓤 (C #textreader·new) (New 𝓤 H A mem run)) (known-moved : Triple 𝓤 (C #textreader·moved) (Moved 𝓤 H A mem run)) (known-count : Triple 𝓤 (C #reader·count) (Reads 𝓤 H A mem run)) where
     walk : Is (ShrSlice (named 0) κ u8) s (v ∷ []) → ent 𝓤 (onEntry 𝓤 H A count-at.signature (κ, tt) (q, tt) a vals) (WpFn 𝓤 H C Λ code.function (v ∷ vint w64 n ∷ vint w32 lowest ∷ vint w32 highest ∷ []) Post)
     walk is-slice =
         qed W (raw (onEntry 𝓤 H A count-at.signature (κ, tt) (q, tt) a vals) ∷ []) ∵ enter ! C Λ code.function (v ∷ vint w64 n ∷ vint w32 lowest ∷ vint w32 highest ∷ []) _ $
@@ -190,14 +190,14 @@ module _ {M : Type 1} (𝓤 : URA M) (H : Heap 𝓤) (A : Atoms 𝓤) (W : Given
         by ! (exits t u″ (there r p t (e .0) d f)))))))))))))))))))))
 
 module _ {M : Type 1} (𝓤 : URA M) (H : Heap 𝓤) (A : Atoms 𝓤) (W : Given 𝓤 H A) (mem : Memory → SProp 𝓤) (run : Routine → Fun 𝓤) where
-  count-at-walks : (C : Calls 𝓤 H) (Λ : Loops 𝓤 H) → FmC 𝓤 H (W .laws) C → Triple 𝓤 (C #reader·new) (New 𝓤 H A mem run) → Triple 𝓤 (C #reader·moved) (Moved 𝓤 H A mem run) → Triple 𝓤 (C #reader·count) (Reads 𝓤 H A mem run)
+  count-at-walks : (C : Calls 𝓤 H) (Λ : Loops 𝓤 H) → FmC 𝓤 H (W .laws) C → Triple 𝓤 (C #textreader·new) (New 𝓤 H A mem run) → Triple 𝓤 (C #textreader·moved) (Moved 𝓤 H A mem run) → Triple 𝓤 (C #reader·count) (Reads 𝓤 H A mem run)
       → Walks 𝓤 H A count-at.ended stayed (WpFn 𝓤 H C Λ code.function) (count-at.clauses 𝓤 H A mem run)
   count-at-walks C Λ fm known-new known-moved known-count = walked 𝓤 H A count-at.ended stayed (count-at.clauses 𝓤 H A mem run) (WpFn 𝓤 H C Λ code.function) (λ κs. (slice-vals, (uint-vals w64, (uint-vals w32, (uint-vals w32, tt))))) (λ κs. (shr-slice-tells (named 0) (κs .0) u8, (uint-tells w64, (uint-tells w32, (uint-tells w32, tt)))))
       (λ κs qs bounds a g are. needs 𝓤 _ _ (λ limits.
       walk 𝓤 H A W mem run (κs .0) (qs .0) (a .0) (a .1 .0) (a .1 .1 .0) (a .1 .1 .1 .0) (are .1 .0 .1) (are .1 .1 .0 .1) (are .1 .1 .1 .0 .1) limits C Λ fm known-new known-moved known-count (are .0)))
 
 count-at-meets : {M : Type 1} (𝓤 : URA M) (H : Heap 𝓤) (A : Atoms 𝓤) (W : Given 𝓤 H A) (mem : Memory → SProp 𝓤) (run : Routine → Fun 𝓤) (𝓣 : Tables 𝓤 H)
-    → Triple 𝓤 (𝓣 .C #reader·new) (New 𝓤 H A mem run) → Triple 𝓤 (𝓣 .C #reader·moved) (Moved 𝓤 H A mem run) → Triple 𝓤 (𝓣 .C #reader·count) (Reads 𝓤 H A mem run)
+    → Triple 𝓤 (𝓣 .C #textreader·new) (New 𝓤 H A mem run) → Triple 𝓤 (𝓣 .C #textreader·moved) (Moved 𝓤 H A mem run) → Triple 𝓤 (𝓣 .C #reader·count) (Reads 𝓤 H A mem run)
     → Meets 𝓤 H A count-at.signature (WpFn 𝓤 H (𝓣 .C) (𝓣 .Λ) code.function) (count-at.spec 𝓤 H A mem run)
 count-at-meets 𝓤 H A W mem run 𝓣 known-new known-moved known-count = walk-meets 𝓤 H A count-at.ended stayed W (goes-none-slice 𝓤 H A W 1 (0 ∷ []) tt (plain (λ _. u8)) yes, (goes-none 𝓤 H A W 1 (λ _. usize) yes (λ κs x f. refl), (goes-none 𝓤 H A W 1 (λ _. u32) yes (λ κs x f. refl), (goes-none 𝓤 H A W 1 (λ _. u32) yes (λ κs x f. refl), tt)))) (count-at.clauses 𝓤 H A mem run) (WpFn 𝓤 H (𝓣 .C) (𝓣 .Λ) code.function) (WpFn-mono 𝓤 H (W .laws) 𝓣 code.function)
     (count-at-walks 𝓤 H A W mem run (𝓣 .C) (𝓣 .Λ) (fmOf 𝓤 H (W .laws) 𝓣) known-new known-moved known-count)
@@ -208,6 +208,6 @@ count-at-spec 𝓤 H 𝓜 𝓖 𝓡 =
     entered 𝓤 H (tripleOf 𝓤 H (𝓖 .A) count-at.signature (count-at.spec 𝓤 H (𝓖 .A) (𝓜 .mem) (𝓡 .run)))
     (tables 𝓤 H 𝓜 𝓡 code.env .C) (tables 𝓤 H 𝓜 𝓡 code.env .Λ) #reader·count-at code.function (code.unfolded 𝓤 H 𝓜 𝓡)
     (count-at-meets 𝓤 H (𝓖 .A) (givenOf 𝓤 H 𝓜 𝓖) (𝓜 .mem) (𝓡 .run) (tablesOf 𝓤 H 𝓜 (tables 𝓤 H 𝓜 𝓡 code.env))
-    (cited 𝓤 H (New 𝓤 H (𝓖 .A) (𝓜 .mem) (𝓡 .run)) 𝓜 𝓡 code.env #reader·new new-def.routine code.calls-reader·new (new-thm.met 𝓤 H 𝓜 𝓖 𝓡))
-    (cited 𝓤 H (Moved 𝓤 H (𝓖 .A) (𝓜 .mem) (𝓡 .run)) 𝓜 𝓡 code.env #reader·moved moved-def.routine code.calls-reader·moved (moved-thm.met 𝓤 H 𝓜 𝓖 𝓡))
+    (cited 𝓤 H (New 𝓤 H (𝓖 .A) (𝓜 .mem) (𝓡 .run)) 𝓜 𝓡 code.env #textreader·new new-def.routine code.calls-textreader·new (new-thm.met 𝓤 H 𝓜 𝓖 𝓡))
+    (cited 𝓤 H (Moved 𝓤 H (𝓖 .A) (𝓜 .mem) (𝓡 .run)) 𝓜 𝓡 code.env #textreader·moved moved-def.routine code.calls-textreader·moved (moved-thm.met 𝓤 H 𝓜 𝓖 𝓡))
     (cited 𝓤 H (Reads 𝓤 H (𝓖 .A) (𝓜 .mem) (𝓡 .run)) 𝓜 𝓡 code.env #reader·count count-def.routine code.calls-reader·count (count-thm.met 𝓤 H 𝓜 𝓖 𝓡)))

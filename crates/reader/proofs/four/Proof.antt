@@ -45,10 +45,10 @@ use denote.Exit.{yes}
 use denote.Triple.Clauses.{ensured, lasts}
 use Rattle.roomlines.specs.Fours.{ReadsFour}
 use Rattle.roomlines.specs.Answers.{fourFound}
-use Rattle.reader.specs.declared.Reader.{Reader}
+use Rattle.textreader.specs.declared.Reader.{Reader}
 use Rattle.roomlines.specs.declared.fours.FoundFour.{FoundFour}
-use Rattle.reader.proofs.Reader as T
-use Rattle.reader.proofs.Reader.Laws as T′
+use Rattle.textreader.proofs.Reader as T
+use Rattle.textreader.proofs.Reader.Laws as T′
 use Rattle.roomlines.proofs.fours.FoundFour as S
 use Rattle.roomlines.proofs.fours.FoundFour.Laws as S′
 use Rattle.roomlines.proofs.fours.four as read

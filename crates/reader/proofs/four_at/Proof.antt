@@ -43,17 +43,17 @@ use Rattle.roomlines.specs.Answers.{fourFound}
 use Rattle.roomlines.specs.declared.fours.FoundFour.{FoundFour}
 use Rattle.roomlines.proofs.fours.FoundFour as S
 use Rattle.roomlines.proofs.fours.FoundFour.Laws as S′
-use Rattle.reader.specs.declared.Reader.{Reader}
-use Rattle.reader.proofs.Reader as T
-use Rattle.reader.proofs.Reader.Laws as T′
-use Rattle.reader.proofs.new as new
-use Rattle.reader.proofs.new.Symbol as new-def
-use Rattle.reader.proofs.new.Symbol.{name as #reader·new}
-use Rattle.reader.proofs.new.Met as new-thm
-use Rattle.reader.proofs.moved as moved
-use Rattle.reader.proofs.moved.Symbol as moved-def
-use Rattle.reader.proofs.moved.Symbol.{name as #reader·moved}
-use Rattle.reader.proofs.moved.Met as moved-thm
+use Rattle.textreader.specs.declared.Reader.{Reader}
+use Rattle.textreader.proofs.Reader as T
+use Rattle.textreader.proofs.Reader.Laws as T′
+use Rattle.textreader.proofs.new as new
+use Rattle.textreader.proofs.new.Symbol as new-def
+use Rattle.textreader.proofs.new.Symbol.{name as #textreader·new}
+use Rattle.textreader.proofs.new.Met as new-thm
+use Rattle.textreader.proofs.moved as moved
+use Rattle.textreader.proofs.moved.Symbol as moved-def
+use Rattle.textreader.proofs.moved.Symbol.{name as #textreader·moved}
+use Rattle.textreader.proofs.moved.Met as moved-thm
 use Rattle.reader.proofs.four as four
 use Rattle.reader.proofs.four.Symbol as four-def
 use Rattle.reader.proofs.four.Symbol.{name as #reader·four}
@@ -151,7 +151,7 @@ module _ {M : Type 1} (𝓤 : URA M) (H : Heap 𝓤) (A : Atoms 𝓤) (W : Given
       suffices ! _ (ends-at 𝓤 H A four-at.ended stayed (four-at.clauses 𝓤 H A mem run) W (((κ, tt), (q, tt), tt, (s, (n, tt)), at), tt) u t (tt, (tt, tt)) (tt, (tt, tt))) $ says ! e $
       move ! (1 ∷ []) $ frame ! $ nothing ! $ owned ! usize (Is usize) (uint-makes 𝓤 H A W w64) n _ (refl, ok) $ fjoin ! $ move ! (2 ∷ 0 ∷ []) $ fjoin ! $ frame ! $ done !
 
-  module _ (C : Calls 𝓤 H) (Λ : Loops 𝓤 H) (fm : FmC 𝓤 H (W .laws) C) (known-new : Triple 𝓤 (C #reader·new) (New 𝓤 H A mem run)) (known-moved : Triple 𝓤 (C #reader·moved) (Moved 𝓤 H A mem run)) (known-four : Triple 𝓤 (C #reader·four) (Reads 𝓤 H A mem run)) where
+  module _ (C : Calls 𝓤 H) (Λ : Loops 𝓤 H) (fm : FmC 𝓤 H (W .laws) C) (known-new : Triple 𝓤 (C #textreader·new) (New 𝓤 H A mem run)) (known-moved : Triple 𝓤 (C #textreader·moved) (Moved 𝓤 H A mem run)) (known-four : Triple 𝓤 (C #reader·four) (Reads 𝓤 H A mem run)) where
     walk : Is (ShrSlice (named 0) κ u8) s (v ∷ []) → ent 𝓤 (onEntry 𝓤 H A four-at.signature (κ, tt) (q, tt) (s, (n, tt)) at) (WpFn 𝓤 H C Λ code.function (v ∷ vint w64 n ∷ []) Post)
     walk is-slice =
         qed W (raw (onEntry 𝓤 H A four-at.signature (κ, tt) (q, tt) (s, (n, tt)) at) ∷ []) ∵ enter ! C Λ code.function (v ∷ vint w64 n ∷ []) _ $
@@ -182,13 +182,13 @@ module _ {M : Type 1} (𝓤 : URA M) (H : Heap 𝓤) (A : Atoms 𝓤) (W : Given
         by ! (exits t u″ (there r p t (e .0) d f)))))))))))))))))))
 
 module _ {M : Type 1} (𝓤 : URA M) (H : Heap 𝓤) (A : Atoms 𝓤) (W : Given 𝓤 H A) (mem : Memory → SProp 𝓤) (run : Routine → Fun 𝓤) where
-  four-at-walks : (C : Calls 𝓤 H) (Λ : Loops 𝓤 H) → FmC 𝓤 H (W .laws) C → Triple 𝓤 (C #reader·new) (New 𝓤 H A mem run) → Triple 𝓤 (C #reader·moved) (Moved 𝓤 H A mem run) → Triple 𝓤 (C #reader·four) (Reads 𝓤 H A mem run)
+  four-at-walks : (C : Calls 𝓤 H) (Λ : Loops 𝓤 H) → FmC 𝓤 H (W .laws) C → Triple 𝓤 (C #textreader·new) (New 𝓤 H A mem run) → Triple 𝓤 (C #textreader·moved) (Moved 𝓤 H A mem run) → Triple 𝓤 (C #reader·four) (Reads 𝓤 H A mem run)
       → Walks 𝓤 H A four-at.ended stayed (WpFn 𝓤 H C Λ code.function) (four-at.clauses 𝓤 H A mem run)
   four-at-walks C Λ fm known-new known-moved known-four = walked 𝓤 H A four-at.ended stayed (four-at.clauses 𝓤 H A mem run) (WpFn 𝓤 H C Λ code.function) (λ κs. (slice-vals, (uint-vals w64, tt))) (λ κs. (shr-slice-tells (named 0) (κs .0) u8, (uint-tells w64, tt)))
       (λ κs qs bounds a g are. via 𝓤 _ (fst∗ 𝓤 _ (emp 𝓤)) (walk 𝓤 H A W mem run (κs .0) (qs .0) (a .0) (a .1 .0) (are .1 .0 .1) C Λ fm known-new known-moved known-four (are .0)))
 
 four-at-meets : {M : Type 1} (𝓤 : URA M) (H : Heap 𝓤) (A : Atoms 𝓤) (W : Given 𝓤 H A) (mem : Memory → SProp 𝓤) (run : Routine → Fun 𝓤) (𝓣 : Tables 𝓤 H)
-    → Triple 𝓤 (𝓣 .C #reader·new) (New 𝓤 H A mem run) → Triple 𝓤 (𝓣 .C #reader·moved) (Moved 𝓤 H A mem run) → Triple 𝓤 (𝓣 .C #reader·four) (Reads 𝓤 H A mem run)
+    → Triple 𝓤 (𝓣 .C #textreader·new) (New 𝓤 H A mem run) → Triple 𝓤 (𝓣 .C #textreader·moved) (Moved 𝓤 H A mem run) → Triple 𝓤 (𝓣 .C #reader·four) (Reads 𝓤 H A mem run)
     → Meets 𝓤 H A four-at.signature (WpFn 𝓤 H (𝓣 .C) (𝓣 .Λ) code.function) (four-at.spec 𝓤 H A mem run)
 four-at-meets 𝓤 H A W mem run 𝓣 known-new known-moved known-four = walk-meets 𝓤 H A four-at.ended stayed W (goes-none-slice 𝓤 H A W 1 (0 ∷ []) tt (plain (λ _. u8)) yes, (goes-none 𝓤 H A W 1 (λ _. usize) yes (λ κs x f. refl), tt)) (four-at.clauses 𝓤 H A mem run) (WpFn 𝓤 H (𝓣 .C) (𝓣 .Λ) code.function) (WpFn-mono 𝓤 H (W .laws) 𝓣 code.function)
     (four-at-walks 𝓤 H A W mem run (𝓣 .C) (𝓣 .Λ) (fmOf 𝓤 H (W .laws) 𝓣) known-new known-moved known-four)
@@ -199,6 +199,6 @@ four-at-spec 𝓤 H 𝓜 𝓖 𝓡 =
     entered 𝓤 H (tripleOf 𝓤 H (𝓖 .A) four-at.signature (four-at.spec 𝓤 H (𝓖 .A) (𝓜 .mem) (𝓡 .run)))
     (tables 𝓤 H 𝓜 𝓡 code.env .C) (tables 𝓤 H 𝓜 𝓡 code.env .Λ) #reader·four-at code.function (code.unfolded 𝓤 H 𝓜 𝓡)
     (four-at-meets 𝓤 H (𝓖 .A) (givenOf 𝓤 H 𝓜 𝓖) (𝓜 .mem) (𝓡 .run) (tablesOf 𝓤 H 𝓜 (tables 𝓤 H 𝓜 𝓡 code.env))
-    (cited 𝓤 H (New 𝓤 H (𝓖 .A) (𝓜 .mem) (𝓡 .run)) 𝓜 𝓡 code.env #reader·new new-def.routine code.calls-reader·new (new-thm.met 𝓤 H 𝓜 𝓖 𝓡))
-    (cited 𝓤 H (Moved 𝓤 H (𝓖 .A) (𝓜 .mem) (𝓡 .run)) 𝓜 𝓡 code.env #reader·moved moved-def.routine code.calls-reader·moved (moved-thm.met 𝓤 H 𝓜 𝓖 𝓡))
+    (cited 𝓤 H (New 𝓤 H (𝓖 .A) (𝓜 .mem) (𝓡 .run)) 𝓜 𝓡 code.env #textreader·new new-def.routine code.calls-textreader·new (new-thm.met 𝓤 H 𝓜 𝓖 𝓡))
+    (cited 𝓤 H (Moved 𝓤 H (𝓖 .A) (𝓜 .mem) (𝓡 .run)) 𝓜 𝓡 code.env #textreader·moved moved-def.routine code.calls-textreader·moved (moved-thm.met 𝓤 H 𝓜 𝓖 𝓡))
     (cited 𝓤 H (Reads 𝓤 H (𝓖 .A) (𝓜 .mem) (𝓡 .run)) 𝓜 𝓡 code.env #reader·four four-def.routine code.calls-reader·four (four-thm.met 𝓤 H 𝓜 𝓖 𝓡)))

@@ -1,6 +1,6 @@
 -- `startring::start_ring`: the rows that the loop passed have started.
 use mathlib.Core.Path.{_≡_, refl}
-use Prim.Native.Nat.{_+_, _-_, _≤_, min}
+use Prim.Native.Nat.{_+_, _-_, _≤_}
 use native.Mathlib.Omega.{arith}
 use lib.ListN.{length}
 use denote.Ref.{now}
@@ -24,14 +24,11 @@ abbrev μ-loop : tie.MeasureT-loop
 most-requires : tie.Need-most-requires Inv-loop μ-loop
 most-requires c κs = search needs
 
-add-least : tie.Need-add-least Inv-loop μ-loop
-add-least c = omega arith
+add-past-row : tie.Need-add-past-row Inv-loop μ-loop
+add-past-row c = omega arith
 
-add-least-2 : tie.Need-add-least-2 Inv-loop μ-loop
-add-least-2 c = omega arith
-
-least-requires : tie.Need-least-requires Inv-loop μ-loop
-least-requires c κs = search needs
+past-row-requires : tie.Need-past-row-requires Inv-loop μ-loop
+past-row-requires c κs = omega (arith, c .before .before .before .before .pre .1 .tall)
 
 past-requires : tie.Need-past-requires Inv-loop μ-loop
 past-requires c κs = search needs
@@ -44,8 +41,8 @@ add-start-row c = omega arith
 
 start-row-requires : tie.Need-start-row-requires Inv-loop μ-loop
 start-row-requires c κs =
-    let p = c .before .before .before .before .before .before .before .before .before .before .pre in
-    (rw (c .before .before .loop .inv .1) (p .0), p .1, p .2, omega (arith, c .before .before .before .before .before .before .before .most .ensures), omega (arith, c .before .before .before .before .before .before .before .most .ensures, c .before .before .before .before .least .ensures, c .before .before .before .past .ensures))
+    let p = c .before .before .before .before .before .before .before .before .before .pre in
+    (rw (c .before .before .loop .inv .1) (p .0), p .1, p .2, omega (arith, c .before .before .before .before .before .before .most .ensures), omega (arith, c .before .before .before .before .before .before .most .ensures, c .before .before .before .before .past-row .ensures, c .before .before .before .past .ensures))
 
 add-n : tie.Need-add-n Inv-loop μ-loop
 add-n c = omega arith
@@ -56,8 +53,8 @@ loop-less c = omega arith
 loop-again : tie.Need-loop-again Inv-loop μ-loop
 loop-again c =
     let b = c .before .before .before .before in
-    let a = c .before .before .before .before .before .before .before .before .before .before .before .before .args in
-    let first = c .before .before .before .before .before .before .before .before .before .most .result in (
+    let a = c .before .before .before .before .before .before .before .before .before .before .before .args in
+    let first = c .before .before .before .before .before .before .before .before .most .result in (
       omega arith,
       omega arith,
       turn-more (levelAt (now (a .lanes))) (levelAt (b .loop .lanes)) _ (b .loop .n) (λ k. rowHit (a .window) (now (a .walk)) (now (a .rows)) (boxOf (a .ring)) (boxOf (a .body)) (a .lane) (first + k)) (b .loop .inv .2) (c .before .start-row .ensures),
@@ -70,9 +67,7 @@ returns : tie.Need-returns Inv-loop μ-loop
 unfolding ringHit
 returns c =
     let e : c .before .loop .n ≡ c .before .before .past .result = omega arith in
-    let a = c .before .before .before .before .before .before .before .before .before .args in
-    let past : c .before .before .before .least .result ≡ min (a .ring .bottom + 1) (a .window .top + a .window .height) = omega (arith, c .before .before .before .least .ensures) in
-    rw (e, c .before .before .past .ensures, past, c .before .before .before .before .before .before .most .ensures) at (c .before .loop .inv .2)
+    rw (e, c .before .before .past .ensures, c .before .before .before .past-row .ensures, c .before .before .before .before .before .most .ensures) at (c .before .loop .inv .2)
 
 pub start-ring-spec : {M : Type 1} → statement M
 start-ring-spec =
@@ -81,9 +76,8 @@ start-ring-spec =
     Inv-loop
     μ-loop
     most-requires
-    add-least
-    add-least-2
-    least-requires
+    add-past-row
+    past-row-requires
     past-requires
     loop-holds
     add-start-row

@@ -1,8 +1,7 @@
 -- `startring::start_row`: the columns that are looked at are those of the ring box that are inside, and they lie in the buffers.
-use mathlib.Core.Path.{_≡_}
-use Prim.Native.Nat.{ℕ, _+_, _*_, _-_, _<_, min}
+use Prim.Native.Nat.{ℕ, _-_, _<_}
 use native.Mathlib.Omega.{arith}
-use lib.ListN.{length, getD}
+use lib.ListN.{length}
 use denote.Ref.{now}
 use borrow.Author.Needs.{needs}
 use Rattle.cells.specs.Boxes.{boxOf}
@@ -45,72 +44,65 @@ add-most-2 c = numbers (c .before .before .before .before .before .before) .firs
 most-requires : tie.Need-most-requires
 most-requires c κs = tt
 
-add-least : tie.Need-add-least
-add-least c = search needs
+mul-past-column : tie.Need-mul-past-column
+mul-past-column c = numbers (c .before .before .before .before .before .before .before) .place
 
-mul-least : tie.Need-mul-least
-mul-least c = numbers (c .before .before .before .before .before .before .before .before) .place
+add-past-column : tie.Need-add-past-column
+add-past-column c = numbers (c .before .before .before .before .before .before .before) .next-place
 
-add-least-2 : tie.Need-add-least-2
-add-least-2 c = numbers (c .before .before .before .before .before .before .before .before) .next-place
+mul-past-column-2 : tie.Need-mul-past-column-2
+mul-past-column-2 c = numbers (c .before .before .before .before .before .before .before) .next-bytes
 
-mul-least-2 : tie.Need-mul-least-2
-mul-least-2 c = numbers (c .before .before .before .before .before .before .before .before) .next-bytes
+shared-slice-read-past-column : tie.Need-shared-slice-read-past-column
+shared-slice-read-past-column c = numbers (c .before .before .before .before .before .before .before .before) .next-in
 
-shared-slice-read-least : tie.Need-shared-slice-read-least
-shared-slice-read-least c = numbers (c .before .before .before .before .before .before .before .before .before) .next-in
+cast-past-column : tie.Need-cast-past-column
+cast-past-column c = numbers (c .before .before .before .before .before .before .before .before) .past
 
-cast-least : tie.Need-cast-least
-cast-least c = numbers (c .before .before .before .before .before .before .before .before .before) .past
+add-past-column-2 : tie.Need-add-past-column-2
+add-past-column-2 c = numbers (c .before .before .before .before .before .before .before .before .before) .past-column
 
-add-least-3 : tie.Need-add-least-3
-add-least-3 c = numbers (c .before .before .before .before .before .before .before .before .before .before) .past-column
-
-least-requires : tie.Need-least-requires
-least-requires c κs = tt
+past-column-requires : tie.Need-past-column-requires
+past-column-requires c κs = omega (arith, c .before .before .before .before .before .before .before .before .before .pre .1 .wide)
 
 sub-start-cells : tie.Need-sub-start-cells
 unfolding firstColumn
-sub-start-cells c = numbers (c .before .before .before .before .before .before .before .before .before .before .before .before) .some-column (c .before .before .before .before .before .most .result) (c .before .before .before .before .before .most .ensures)
+sub-start-cells c = numbers (c .before .before .before .before .before .before .before .before .before .before .before) .some-column (c .before .before .before .before .most .result) (c .before .before .before .before .most .ensures)
 
 add-start-cells : tie.Need-add-start-cells
-add-start-cells c = numbers (c .before .before .before .before .before .before .before .before .before .before .before .before) .next-row
+add-start-cells c = numbers (c .before .before .before .before .before .before .before .before .before .before .before) .next-row
 
 stride-requires : tie.Need-stride-requires
 stride-requires c κs = search needs
 
 mul-start-cells : tie.Need-mul-start-cells
-mul-start-cells c = numbers (c .before .before .before .before .before .before .before .before .before .before .before .before .before) .row-place (c .stride .result) (c .stride .ensures)
+mul-start-cells c = numbers (c .before .before .before .before .before .before .before .before .before .before .before .before) .row-place (c .stride .result) (c .stride .ensures)
 
 sub-start-cells-2 : tie.Need-sub-start-cells-2
 unfolding firstColumn
-sub-start-cells-2 c = numbers (c .before .before .before .before .before .before .before .before .before .before .before .before .before .before) .after-left (c .before .before .before .before .before .before .before .most .result) (c .before .before .before .before .before .before .before .most .ensures)
+sub-start-cells-2 c = numbers (c .before .before .before .before .before .before .before .before .before .before .before .before .before) .after-left (c .before .before .before .before .before .before .most .result) (c .before .before .before .before .before .before .most .ensures)
 
 add-start-cells-2 : tie.Need-add-start-cells-2
 unfolding firstColumn
-add-start-cells-2 c = numbers (c .before .before .before .before .before .before .before .before .before .before .before .before .before .before) .cell-place (c .before .stride .result) (c .before .before .before .before .before .before .before .most .result) (c .before .stride .ensures) (c .before .before .before .before .before .before .before .most .ensures)
+add-start-cells-2 c = numbers (c .before .before .before .before .before .before .before .before .before .before .before .before .before) .cell-place (c .before .stride .result) (c .before .before .before .before .before .before .most .result) (c .before .stride .ensures) (c .before .before .before .before .before .before .most .ensures)
 
 past-requires : tie.Need-past-requires
 past-requires c κs = tt
 
--- one past the last column that is looked at
-past-column : (c : tie.After-least) → c .least .result ≡ min (c .before .before .before .before .before .before .before .before .before .before .before .args .ring .right + 2) (getD (now (c .before .before .before .before .before .before .before .before .before .before .before .args .rows)) (2 * (c .before .before .before .before .before .before .before .before .before .before .before .args .y - c .before .before .before .before .before .before .before .before .before .before .before .args .window .top) + 1) 0 + c .before .before .before .before .before .before .before .before .before .before .before .args .window .left)
-past-column c = omega (arith, c .least .ensures)
-
 start-cells-requires : tie.Need-start-cells-requires
 unfolding firstColumn pastColumn
 start-cells-requires c κs =
-    let p = c .before .before .before .before .before .before .before .before .before .before .before .before .before .before .before .pre in
-    let a = c .before .before .before .before .before .before .before .before .before .before .before .before .before .before .before .args in
-    rw (c .past .ensures, c .before .before .stride .ensures, past-column (c .before .before .before .before), c .before .before .before .before .before .before .before .before .most .ensures)
-    (cells-room (a .window) (length (now (a .lanes))) (length (now (a .walk))) (now (a .rows)) (boxOf (a .ring)) (a .lane) (a .y - a .window .top) (p .0) (p .1) (p .2) (in-window (c .before .before .before .before .before .before .before .before .before .before .before .before .before .before .before)))
+    let p = c .before .before .before .before .before .before .before .before .before .before .before .before .before .before .pre in
+    let a = c .before .before .before .before .before .before .before .before .before .before .before .before .before .before .args in
+    rw (c .past .ensures, c .before .before .stride .ensures, c .before .before .before .before .past-column .ensures, c .before .before .before .before .before .before .before .most .ensures)
+    (cells-room (a .window) (length (now (a .lanes))) (length (now (a .walk))) (now (a .rows)) (boxOf (a .ring)) (a .lane) (a .y - a .window .top) (p .0) (p .1) (p .2) (in-window (c .before .before .before .before .before .before .before .before .before .before .before .before .before .before)))
 
 same-length : tie.Need-same-length
 same-length c = search needs
 
 returns : tie.Need-returns
 unfolding rowHit firstColumn pastColumn
-returns c = rw (c .before .before .past .ensures, c .before .before .before .before .stride .ensures, past-column (c .before .before .before .before .before .before), c .before .before .before .before .before .before .before .before .before .before .most .ensures) at (c .before .start-cells .ensures)
+returns c = rw (c .before .before .past .ensures, c .before .before .before .before .stride .ensures, c .before .before .before .before .before .before .past-column .ensures, c .before .before .before .before .before .before .before .before .before .most .ensures) at (c .before .start-cells .ensures)
 
 pub start-row-spec : {M : Type 1} → statement M
 start-row-spec =
@@ -124,14 +116,13 @@ start-row-spec =
     cast-most
     add-most-2
     most-requires
-    add-least
-    mul-least
-    add-least-2
-    mul-least-2
-    shared-slice-read-least
-    cast-least
-    add-least-3
-    least-requires
+    mul-past-column
+    add-past-column
+    mul-past-column-2
+    shared-slice-read-past-column
+    cast-past-column
+    add-past-column-2
+    past-column-requires
     sub-start-cells
     add-start-cells
     stride-requires

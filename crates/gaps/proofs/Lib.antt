@@ -1,0 +1,2 @@
+-- Laws of gaps.
+pub mod Gaps

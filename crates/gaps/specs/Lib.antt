@@ -1,0 +1,2 @@
+-- The inside of a window by row, and what the functions about it assume.
+pub mod Inside

@@ -1,0 +1,2 @@
+-- The laws that the proof of this crate cites.
+pub mod Passed

@@ -1,0 +1,2 @@
+-- The greatest of many bytes.
+pub mod Greatest
