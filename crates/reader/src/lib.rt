@@ -30,7 +30,11 @@ pub fn count_at(text: &[u8], at: usize, lowest: u32, highest: u32) -> FoundCount
     requires { ⌜ (lowest ≤ 2147483647) × (highest ≤ 2147483647) ⌝ }
     ensures { λ r. ⌜ ReadsCount lowest highest (now (text .entry)) at (countFound r) ⌝ }
 {
-    count(textreader::moved(textreader::new(text), at), lowest, highest)
+    count(
+        textreader::moved(textreader::new(text), at),
+        lowest,
+        highest,
+    )
 }
 
 // The four numbers on the line at a place of a text.
