@@ -1,7 +1,20 @@
-// The label and the point of an access cell.
+// Where the access cells of a resource start among the indices, and the label and the point of one.
 ghost use mathlib.Core.Path.{_≡_};
 ghost use Prim.Native.Nat.{_≤_, _<_};
+ghost use lib.ListN.{length};
+ghost use Rattle.walkgraph.specs.FieldsPromise.{startOf};
 ghost use Rattle.accesslabel.specs.AccessLabel.{labelOf, pointOf};
+
+// Where the indices of a resource start: at the end of the one before it, and at 0 for the first.
+pub fn start_of(ends: &[u32], resource: usize) -> usize
+    requires { ⌜ resource < length (now ends) ⌝ }
+    ensures { λ r. ⌜ r ≡ startOf (now (ends .entry)) resource ⌝ }
+{
+    if resource == 0 {
+        return 0;
+    }
+    ends[resource - 1] as usize
+}
 
 // The label of a resource's access cells: the resource at depth 0.
 pub fn label_of(resource: usize) -> u16

@@ -5,7 +5,6 @@ use mathlib.Core.List.{List}
 use Prim.Native.Nat.{ℕ, _+_, _*_, _/_, _%_, _≤_, _<_}
 use native.Mathlib.Decide.{ℕ-discrete}
 use native.Mathlib.Nat.{mod-lt, mul-le-mul, div-add-mod', div-lt-iff-lt-mul}
-use native.Mathlib.Numerals.{add-one}
 use native.Mathlib.Omega.{arith}
 use lib.Arith.{digits-div, digits-mod}
 use lib.ListN.{getD, length, set}
@@ -279,18 +278,10 @@ module _ {i : JoinInput} {r a : ℕ} {states queue parents ranks states′ queue
   seeded-ranks = A .planting .forest .long ∙ A .size ∙ sym (M .long)
 
 -- ---- list after list
-pub start-next : (ends : List ℕ) (r : ℕ) → startOf ends (r + 1) ≡ getD ends r 0
-unfolding startOf
-start-next ends r = rw (add-one r)
-
-pub start-first : (ends : List ℕ) → startOf ends 0 ≡ 0
-unfolding startOf
-start-first ends = refl
-
 -- a list is done, and none of the next
-pub sown-next : {i : JoinInput} {r to : ℕ} {states queue parents ranks : List ℕ} {tail : ℕ} → to ≡ getD (i .ends) r 0 → SownTo i r to states queue parents ranks tail →
-    SownTo i (r + 1) to states queue parents ranks tail
-sown-next {i} {r} {to} e B =
+pub sown-next : {i : JoinInput} {r : ℕ} {states queue parents ranks : List ℕ} {tail : ℕ} → SownTo i r (getD (i .ends) r 0) states queue parents ranks tail →
+    SownTo i (r + 1) (startOf (i .ends) (r + 1)) states queue parents ranks tail
+sown-next {i} {r} B =
     record {
       planting = B .planting;
       size = B .size;
@@ -301,12 +292,12 @@ sown-next {i} {r} {to} e B =
       joined = B .joined;
     }
   where
-    before : (s x y : ℕ) (a : Access i s x y) → Done (r + 1) to s (a .place) → Done r to s (a .place)
+    before : (s x y : ℕ) (a : Access i s x y) → Done (r + 1) (startOf (i .ends) (r + 1)) s (a .place) → Done r (getD (i .ends) r 0) s (a .place)
     before s x y a (inl h) =
         by-cases (ℕ-discrete s r)
         (λ q. inr (q, omega (arith, a .high, ap (λ t. getD (i .ends) t 0) q)))
         (λ n. inl (omega arith))
-    before s x y a (inr h) = absurd (omega (arith, h .1, a .low, ap (startOf (i .ends)) (h .0), start-next (i .ends) r))
+    before s x y a (inr h) = absurd (omega (arith, h .1, a .low, ap (startOf (i .ends)) (h .0)))
 
 pub sown-all : {i : JoinInput} {lists place : ℕ} {states queue parents ranks : List ℕ} {tail : ℕ} → SownTo i lists place states queue parents ranks tail → Sown i lists states queue parents ranks tail
 sown-all B =

@@ -1,6 +1,7 @@
 // What the search of the fields starts from.
 use crate::ground;
 use crate::sow;
+use accesslabel;
 use disjoint::find;
 ghost use lib.ListN.{length};
 ghost use Rattle.seeds.specs.Sown.{inputOf, Sown};
@@ -25,8 +26,8 @@ pub fn seed(
     ground::ground(cells, states);
     find::begin(parents, ranks);
     let mut tail: usize = 0;
-    let mut from: usize = 0;
     for r in 0..ends.len() {
+        let from = accesslabel::start_of(ends, r);
         let to = ends[r] as usize;
         tail = sow::sow(
             states,
@@ -40,7 +41,6 @@ pub fn seed(
             to,
             tail,
         );
-        from = to;
     }
     tail
 }
