@@ -1,9 +1,9 @@
-// The gap of a value to an interval, octile cost, and the inside of a window.
+// The gap of a value to an interval, octile cost, and the inside of a window; a column as row intervals count it.
 use cells::boxes::CellBox;
 use cells::edge;
 use windowedges::REACH;
 ghost use mathlib.Core.Path.{_≡_};
-ghost use Prim.Native.Nat.{_≤_};
+ghost use Prim.Native.Nat.{_+_, _≤_};
 ghost use Rattle.walkgraph.specs.Window.{gap, octile};
 ghost use Rattle.cells.specs.Boxes.{reach, boxOf};
 ghost use Rattle.gaps.specs.Inside.{Beside, insideInRow};
@@ -35,4 +35,12 @@ pub fn inside(x: usize, sources: CellBox, source: usize, targets: CellBox, targe
     let from_sources = octile(gap(x, sources.left, sources.right), source);
     let to_targets = octile(gap(x, targets.left, targets.right), target);
     from_sources + to_targets <= 1000 * REACH
+}
+
+// A column of a window, from 0, counted with padding.
+pub fn padded(column: usize) -> u16
+    requires { ⌜ column ≤ 1024 ⌝ }
+    ensures { λ r. ⌜ r ≡ column + 1 ⌝ }
+{
+    (column + 1) as u16
 }

@@ -90,8 +90,8 @@ pub fn write_row(rows: &mut [u16], window: Window, sources: CellBox, targets: Ce
     };
     let first = first_inside(window, gaps);
     let after = after_inside(window, gaps, first);
-    rows[2 * y] = (first + 1) as u16;
-    rows[2 * y + 1] = (window.width - after + 1) as u16;
+    rows[2 * y] = gaps::padded(first);
+    rows[2 * y + 1] = gaps::padded(window.width - after);
 }
 
 // Writes the intervals of all window rows.
