@@ -3,6 +3,7 @@ use rectangles;
 use rectangles::FoundTail;
 use roomgrid;
 use roomgrid::FoundGrid;
+use textlines;
 ghost use Rattle.roomtext.specs.Readings.{ReadsRoom, RoomFits};
 ghost use Rattle.roomtext.specs.Answers.{roomFound};
 
@@ -38,7 +39,7 @@ pub fn room(text: &[u8], cells: &mut [u8], numbers: &mut [i32]) -> Reading
                     };
                 }
                 FoundTail::Tail(blockers, resources, past) => {
-                    if past < text.len() {
+                    if textlines::goes_on(text, past) {
                         return Reading::Broken {
                             line: height + blockers + resources + 6,
                         };

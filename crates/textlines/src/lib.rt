@@ -1,4 +1,7 @@
 // Lines of a text, each ended by LF.
+ghost use mathlib.Core.Path.{_≡_};
+ghost use lib.ListN.{length};
+ghost use lib.Dec.{ltb};
 ghost use Rattle.textlines.specs.Lines.{FindsLine};
 ghost use Rattle.textlines.specs.Answers.{lineFound};
 
@@ -20,4 +23,11 @@ pub fn line_end(text: &[u8], at: usize) -> FoundLine
         end += 1;
     }
     FoundLine::Unended
+}
+
+// Whether a text goes on at a place.
+pub fn goes_on(text: &[u8], at: usize) -> bool
+    ensures { λ r. ⌜ r ≡ ltb at (length (now (text .entry))) ⌝ }
+{
+    at < text.len()
 }

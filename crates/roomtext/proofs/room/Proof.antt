@@ -1,6 +1,8 @@
 -- `roomtext::room`: the rows, the rectangles, and nothing after them.
+use mathlib.Core.Path.{sym, _∙_}
 use native.Mathlib.Omega.{arith}
 use borrow.Author.Needs.{needs}
+use borrow.Author.Tests.{ltb-true, ltb-false}
 use Rattle.roomgrid.specs.Grids.{GridTaken}
 use Rattle.roomgrid.specs.Answers.{gridFound}
 use Rattle.rectangles.specs.Readings.{TailTaken}
@@ -67,14 +69,17 @@ rest-read c = tail-taken-of (rw (c .before .rest2 .given .1) at (c .before .befo
 enum-known-rest-2 : tie.Need-enum-known-rest-2
 enum-known-rest-2 c = search needs
 
+goes-on-requires : tie.Need-goes-on-requires
+goes-on-requires c κs = tt
+
+add-t22 : tie.Need-add-t22
+add-t22 c = let i = map-read (c .before .before .before .before .before .before .before .before) .high in let j = rest-read (c .before .before) .blockers-high in let k = rest-read (c .before .before) .resources-high in omega (arith, i, j, k)
+
 add-t23 : tie.Need-add-t23
-add-t23 c = let i = map-read (c .before .before .before .before .before .before .before) .high in let j = rest-read (c .before) .blockers-high in let k = rest-read (c .before) .resources-high in omega (arith, i, j, k)
+add-t23 c = let i = map-read (c .before .before .before .before .before .before .before .before) .high in let j = rest-read (c .before .before) .blockers-high in let k = rest-read (c .before .before) .resources-high in omega (arith, i, j, k)
 
 add-t24 : tie.Need-add-t24
-add-t24 c = let i = map-read (c .before .before .before .before .before .before .before) .high in let j = rest-read (c .before) .blockers-high in let k = rest-read (c .before) .resources-high in omega (arith, i, j, k)
-
-add-t25 : tie.Need-add-t25
-add-t25 c = let i = map-read (c .before .before .before .before .before .before .before) .high in let j = rest-read (c .before) .blockers-high in let k = rest-read (c .before) .resources-high in omega (arith, i, j, k)
+add-t24 c = let i = map-read (c .before .before .before .before .before .before .before .before) .high in let j = rest-read (c .before .before) .blockers-high in let k = rest-read (c .before .before) .resources-high in omega (arith, i, j, k)
 
 same-length-4 : tie.Need-same-length-4
 same-length-4 c = search needs
@@ -84,7 +89,7 @@ same-length-5 c = search needs
 
 returns-3 : tie.Need-returns-3
 unfolding roomFound
-returns-3 c = room-goes-on (map-read (c .before .before .before .before .before .before .before)) (rest-read (c .before)) (omega (arith, c .if1 .taken)) (omega arith)
+returns-3 c = room-goes-on (map-read (c .before .before .before .before .before .before .before .before)) (rest-read (c .before .before)) (ltb-true _ _ (sym (c .before .goes-on .ensures) ∙ c .if1 .taken)) (omega arith)
 
 same-length-6 : tie.Need-same-length-6
 same-length-6 c = search needs
@@ -94,7 +99,7 @@ same-length-7 c = search needs
 
 returns-4 : tie.Need-returns-4
 unfolding roomFound
-returns-4 c = room-read (map-read (c .before .before .before .before .before .before .before)) (rest-read (c .before)) (omega (arith, c .if1 .left))
+returns-4 c = room-read (map-read (c .before .before .before .before .before .before .before .before)) (rest-read (c .before .before)) (ltb-false _ _ (sym (c .before .goes-on .ensures) ∙ c .if1 .left))
 
 pub room-spec : {M : Type 1} → statement M
 room-spec =
@@ -114,9 +119,10 @@ room-spec =
     same-length-3
     returns-2
     enum-known-rest-2
+    goes-on-requires
+    add-t22
     add-t23
     add-t24
-    add-t25
     same-length-4
     same-length-5
     returns-3
