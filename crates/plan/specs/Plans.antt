@@ -6,15 +6,14 @@ use Prim.Native.Nat.{ℕ, _+_, _*_, _-_, _/_, _≤_}
 use lib.ListN.{length}
 use lib.IntN.{ℤ}
 use lib.Dec.{leb}
-use Rattle.walkgraph.specs.Map.{Box}
 use Rattle.walkgraph.specs.Painting.{Rectangle}
-use Rattle.walkgraph.specs.Ring.{pixel}
 use Rattle.walkgraph.specs.Window.{sources}
 use Rattle.walkgraph.specs.Buffers as buffers
 use Rattle.walkgraph.specs.Refusals.{badSpan, FieldInput, Verdict, accepted, refused, fieldVerdict}
 use Rattle.cells.specs.Boxes.{reach, boxOf}
 use Rattle.rings.specs.Rings.{AllRings}
 use Rattle.greatestbyte.specs.Greatest.{greatest}
+use Rattle.targetbox.specs.TargetBox.{cellsOf}
 use Rattle.window.specs.declared.record.Window.{Window}
 use Rattle.lane.specs.Levels.{LaneCount}
 use Rattle.plan.specs.declared.Lent.{Lent}
@@ -29,10 +28,6 @@ enough window lent =
     let cells = (window .height + 2) * (window .width + 2) in
     let rows = window .height in
     leb (cells * window .lanes) (lent .lanes) && leb cells (lent .walk) && leb cells (lent .flags) && leb (2 * rows) (lent .rows) && leb (rows + 2) (lent .versions) && leb (rows + 2) (lent .«pulled_down») && leb (rows + 2) (lent .«pulled_up»)
-
--- the target box of an accepted call: its four numbers are cells of the map
-abbrev pub cellsOf : Rectangle → Box
-cellsOf t = record { left = pixel (t .left); top = pixel (t .top); right = pixel (t .right); bottom = pixel (t .bottom) }
 
 -- resources, a lane count and a target box that are not refused, and at least one resource
 pub record Accepted (width height lanes : ℕ) (resources : List ℤ) (targets : Rectangle) : Type 0 where

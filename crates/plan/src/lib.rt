@@ -2,11 +2,11 @@
 pub mod site;
 
 use crate::site::Site;
-use cells::boxes::CellBox;
 use judge::verdict::Verdict;
 use refusals;
 use rings::ring;
 use rowbuffers;
+use targetbox;
 use window::record;
 use window::record::Window;
 ghost use mathlib.Core.Path.{_≡_};
@@ -72,12 +72,7 @@ pub fn site_of(
     ensures { λ r. ⌜ SiteOf width height lanes (now (resources .entry)) (corners left top right bottom) r ⌝ }
 {
     let sources = ring::sources(resources, width, height);
-    let targets = CellBox {
-        left: left as usize,
-        top: top as usize,
-        right: right as usize,
-        bottom: bottom as usize,
-    };
+    let targets = targetbox::cells_of(left, top, right, bottom);
     let window = record::window_of(sources, targets, width, height, lanes);
     Site {
         width,

@@ -20,10 +20,10 @@ use Rattle.rings.proofs.Sources.{sources-in-map}
 use Rattle.judge.proofs.Accepted.{Span, span}
 use Rattle.judge.proofs.Judging.{accepted-parts}
 use Rattle.window.proofs.Edges.{window-in-map}
-use Rattle.plan.specs.Plans.{cellsOf}
+use Rattle.targetbox.specs.TargetBox.{Natural, cellsOf}
 use Rattle.groups.specs.Groups.{GroupsFit}
 use Rattle.sheets.specs.Shown.{zeroAnswers, ShownFits}
-use Rattle.sheets.specs.Drawings.{zeroField, Natural, DrawFits}
+use Rattle.sheets.specs.Drawings.{zeroField, DrawFits}
 
 -- what the table judges before the lent buffers
 record Found (i : FieldInput) : Type 0 where

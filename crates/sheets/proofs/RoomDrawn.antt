@@ -8,7 +8,7 @@ use Rattle.walkgraph.specs.Reading.{WindowRecord}
 use Rattle.walkgraph.specs.Refusals.{FieldInput}
 use Rattle.walkgraph.specs.Promise.{FieldPromise, refusal, made, refuses}
 use Rattle.cells.specs.Boxes.{reach}
-use Rattle.plan.specs.Plans.{cellsOf}
+use Rattle.targetbox.specs.TargetBox.{cellsOf}
 use Rattle.page.specs.Puts.{Puts, Room}
 use Rattle.page.specs.Lines.{refusalLine}
 use Rattle.page.proofs.Lengths.{refusal-most}

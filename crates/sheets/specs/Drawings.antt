@@ -4,14 +4,12 @@ use mathlib.Core.List.{List}
 use Prim.Native.Nat.{ℕ, _≤_}
 use lib.IntN.{pos}
 use lib.ListN.{length, replicate}
-use Rattle.walkgraph.specs.Painting.{Rectangle}
-use Rattle.walkgraph.specs.Ring.{pixel}
 use Rattle.walkgraph.specs.Buffers.{Lent}
 use Rattle.walkgraph.specs.Reading.{WindowRecord}
 use Rattle.walkgraph.specs.Refusals.{FieldInput, fieldVerdict, refused}
 use Rattle.walkgraph.specs.Promise.{FieldPromise, made}
 use Rattle.cells.specs.Boxes.{reach}
-use Rattle.plan.specs.Plans.{cellsOf}
+use Rattle.targetbox.specs.TargetBox.{cellsOf}
 use Rattle.make.specs.Makes.{lent}
 use Rattle.page.specs.Lines.{refusalLine}
 use Rattle.sheettext.specs.Sheets.{PutsWithin}
@@ -45,13 +43,6 @@ pub record PutsDrawing (input : FieldInput) (before after : List ℕ) (end : ℕ
   pub text : List ℕ
   pub drawing : Drawing input text
   pub puts : PutsWithin 200000 text before 0 after end
-
--- the four numbers of a box are not negative
-pub record Natural (box : Rectangle) : Type 0 where
-  pub left : box .left ≡ pos (pixel (box .left))
-  pub top : box .top ≡ pos (pixel (box .top))
-  pub right : box .right ≡ pos (pixel (box .right))
-  pub bottom : box .bottom ≡ pos (pixel (box .bottom))
 
 -- "60 rows, 60 columns", and a page
 pub record DrawFits (width height : ℕ) (page : List ℕ) : Type 0 where

@@ -1,26 +1,11 @@
 // The sheet of a room, put on a page: the field call judges the room and makes its field, and the sheet shows it with its resources' fields.
 use crate::fieldsheet;
-use cells::boxes::CellBox;
 use fieldanswer::Answer;
 use page::lines;
-ghost use mathlib.Core.Path.{_≡_};
-ghost use Rattle.cells.specs.Boxes.{boxOf};
+use targetbox;
 ghost use Rattle.rings.specs.Rings.{corners};
-ghost use Rattle.plan.specs.Plans.{cellsOf, inputOf};
-ghost use Rattle.sheets.specs.Drawings.{Natural, DrawFits, PutsDrawing};
-
-// The cells of an accepted target box.
-fn cells_of(left: i32, top: i32, right: i32, bottom: i32) -> CellBox
-    requires { ⌜ Natural (corners left top right bottom) ⌝ }
-    ensures { λ r. ⌜ boxOf r ≡ cellsOf (corners left top right bottom) ⌝ }
-{
-    CellBox {
-        left: left as usize,
-        top: top as usize,
-        right: right as usize,
-        bottom: bottom as usize,
-    }
-}
+ghost use Rattle.plan.specs.Plans.{inputOf};
+ghost use Rattle.sheets.specs.Drawings.{DrawFits, PutsDrawing};
 
 // Puts the sheet of a room, or the line of its refusal, from the page's start on; answers where it ends.
 pub fn draw(
@@ -70,7 +55,7 @@ pub fn draw(
             return lines::refusal(page, 0, number, place);
         }
         Answer::Made { window, sweeps } => {
-            let targets = cells_of(left, top, right, bottom);
+            let targets = targetbox::cells_of(left, top, right, bottom);
             return fieldsheet::shown(
                 page,
                 width,

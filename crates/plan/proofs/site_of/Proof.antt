@@ -2,14 +2,18 @@
 use mathlib.Core.Path.{_≡_, sym, ap, _∙_}
 use Prim.Native.Nat.{ℕ}
 use native.Mathlib.Omega.{arith}
+use mir.Syntax.{w32}
+use mir.ValLaws.{toZ-ofZ}
 use borrow.Author.Needs.{needs}
 use Rattle.walkgraph.specs.Map.{Box}
-use Rattle.cells.proofs.Casts.{cast, may-cast}
-use Rattle.rings.proofs.Sources.{same-box, sources-in-map}
+use Rattle.cells.specs.Boxes.{boxOf}
+use Rattle.rings.specs.Rings.{corners}
+use Rattle.rings.proofs.Sources.{sources-in-map}
 use Rattle.judge.proofs.Accepted.{Span, span}
 use Rattle.window.specs.declared.record.Window.{Window}
 use Rattle.window.specs.Windows.{windowOver}
 use Rattle.lane.specs.Levels.{LaneCount}
+use Rattle.targetbox.specs.TargetBox.{cellsOf}
 use Rattle.plan.proofs.site_of.Statement.{statement}
 use Rattle.plan.proofs.site_of.Tie as tie
 
@@ -33,60 +37,44 @@ across c = span (c .before .args .width) (c .before .args .left) (c .before .arg
 along : (c : tie.After-sources) → Span (c .before .args .height) (c .before .args .top) (c .before .args .bottom)
 along c = span (c .before .args .height) (c .before .args .top) (c .before .args .bottom) (c .before .pre .along)
 
-cast-t12 : tie.Need-cast-t12
-cast-t12 c = let b = c .before in may-cast (b .args .left) (b .fits .left) _ (across c .low-is)
+cells-of-requires : tie.Need-cells-of-requires
+cells-of-requires c κs =
+    let b = c .before .args in
+    let f = c .before .fits in
+    rw (toZ-ofZ w32 (b .left) (f .left), toZ-ofZ w32 (b .top) (f .top), toZ-ofZ w32 (b .right) (f .right), toZ-ofZ w32 (b .bottom) (f .bottom))
+    (record { left = across c .low-is; top = along c .low-is; right = across c .high-is; bottom = along c .high-is })
 
-cast-t13 : tie.Need-cast-t13
-cast-t13 c = let b = c .before in may-cast (b .args .top) (b .fits .top) _ (along c .low-is)
-
-cast-t14 : tie.Need-cast-t14
-cast-t14 c = let b = c .before in may-cast (b .args .right) (b .fits .right) _ (across c .high-is)
-
-cast-t15 : tie.Need-cast-t15
-cast-t15 c = let b = c .before in may-cast (b .args .bottom) (b .fits .bottom) _ (along c .high-is)
+-- the target box's cells
+boxed : (c : tie.After-cells-of) → boxOf (c .cells-of .result) ≡ cellsOf (let a = c .before .before .args in corners (a .left) (a .top) (a .right) (a .bottom))
+boxed c =
+    let b = c .before .before .args in
+    let f = c .before .before .fits in
+    rw (toZ-ofZ w32 (b .left) (f .left), toZ-ofZ w32 (b .top) (f .top), toZ-ofZ w32 (b .right) (f .right), toZ-ofZ w32 (b .bottom) (f .bottom)) at (c .cells-of .ensures)
 
 window-of-requires : tie.Need-window-of-requires
 window-of-requires c κs =
-    let b = c .before in
-    let s = across c in
-    let t = along c in
-    let left = cast (b .args .left) (b .fits .left) _ (s .low-is) in
-    let top = cast (b .args .top) (b .fits .top) _ (t .low-is) in
-    let right = cast (b .args .right) (b .fits .right) _ (s .high-is) in
-    let bottom = cast (b .args .bottom) (b .fits .bottom) _ (t .high-is) in
+    let b = c .before .before in
+    let s = across (c .before) in
+    let t = along (c .before) in
     record {
       wide = b .pre .rings .wide;
       high = b .pre .rings .high;
-      sources = rw (c .sources .ensures) (sources-in-map (b .args .width) (b .args .height) (b .args .resources .now) (b .pre .rings));
-      targets = record {
-        across = omega (arith, left, right, s .across);
-        wide = omega (arith, right, s .wide);
-        along = omega (arith, top, bottom, t .across);
-        tall = omega (arith, bottom, t .wide);
-      };
+      sources = rw (c .before .sources .ensures) (sources-in-map (b .args .width) (b .args .height) (b .args .resources .now) (b .pre .rings));
+      targets = rw (boxed c) (record { across = s .across; wide = s .wide; along = t .across; tall = t .wide });
     }
 
 returns : tie.Need-returns
 returns c =
     let d = c .before in
-    let b = d .before in
-    let s = across d in
-    let t = along d in
     let e = c .window-of .ensures in
     record {
-      good = record { on-map = window-of-requires d _; over = over _ _ _ e; count = few _ _ _ e (b .pre .count) };
+      good = record { on-map = window-of-requires d _; over = over _ _ _ e; count = few _ _ _ e (d .before .before .pre .count) };
       columns = omega arith;
       rows = omega arith;
-      from = d .sources .ensures;
-      to = same-box
-          (cast (b .args .left) (b .fits .left) _ (s .low-is))
-          (cast (b .args .top) (b .fits .top) _ (t .low-is))
-          (cast (b .args .right) (b .fits .right) _ (s .high-is))
-          (cast (b .args .bottom) (b .fits .bottom) _ (t .high-is));
+      from = d .before .sources .ensures;
+      to = boxed d;
       count = lanes-are _ _ _ e;
     }
 
 pub site-of-spec : {M : Type 1} → statement M
-site-of-spec =
-    tie.close
-    (tie.spec sources-requires cast-t12 cast-t13 cast-t14 cast-t15 window-of-requires returns)
+site-of-spec = tie.close (tie.spec sources-requires cells-of-requires window-of-requires returns)

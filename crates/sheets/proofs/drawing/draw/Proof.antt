@@ -11,7 +11,8 @@ use Rattle.walkgraph.specs.Promise.{FieldPromise, refusal, made}
 use Rattle.cells.specs.Boxes.{reach, boxOf}
 use Rattle.rings.specs.Rings.{corners}
 use Rattle.window.specs.Windows.{asRecord}
-use Rattle.plan.specs.Plans.{cellsOf, inputOf}
+use Rattle.targetbox.specs.TargetBox.{cellsOf}
+use Rattle.plan.specs.Plans.{inputOf}
 use Rattle.make.specs.Makes.{lent}
 use Rattle.fieldanswer.specs.Answers.{answerOf}
 use Rattle.sheets.specs.Drawings.{zeroField}

@@ -1,8 +1,14 @@
--- `sheets::drawing::cells_of`: numbers that are not negative are cast to themselves.
+-- `targetbox::cells_of`: numbers that are not negative are cast to themselves.
+use mathlib.Core.Path.{_≡_}
+use Prim.Native.Nat.{ℕ}
+use Rattle.walkgraph.specs.Map.{Box}
 use Rattle.cells.proofs.Casts.{cast, may-cast}
-use Rattle.rings.proofs.Sources.{same-box}
-use Rattle.sheets.proofs.drawing.cells_of.Statement.{statement}
-use Rattle.sheets.proofs.drawing.cells_of.Tie as tie
+use Rattle.targetbox.proofs.cells_of.Statement.{statement}
+use Rattle.targetbox.proofs.cells_of.Tie as tie
+
+same-box : {l l′ t t′ r r′ b b′ : ℕ} → l ≡ l′ → t ≡ t′ → r ≡ r′ → b ≡ b′ →
+    _≡_ {A = Box} (record { left = l; top = t; right = r; bottom = b }) (record { left = l′; top = t′; right = r′; bottom = b′ })
+same-box h i j k = cc
 
 cast-t5 : tie.Need-cast-t5
 cast-t5 c = may-cast (c .args .left) (c .fits .left) _ (c .pre .left)
