@@ -3,7 +3,7 @@ use mathlib.Core.Path.{sym}
 use mathlib.Core.List.{List}
 use Prim.Native.Nat.{ℕ, _/_, _≤_}
 use denote.Ref.{now}
-use lib.ListN.{length}
+use lib.ListN.{length, length-replicate}
 use lib.Seq.{length-take-le}
 use borrow.Author.Needs.{needs}
 use Rattle.walkgraph.specs.AccessPromise.{listed}
@@ -27,16 +27,19 @@ abbrev ends : tie.After-known-told → List ℕ
 ends c = c .before .before .before .before .before .access-lists .last .1 .1 .1 .1 .1 .0
 
 -- they are listed
-made : (c : tie.After-known-told) → let a = c .before .before .before .before .before .before .before .before .before .before .args in AccessListsPromise (a .width) (a .height) (now (a .cells)) (now (a .resources)) zeroLists (lent (indices c) (ends c)) (listed (count c))
+made : (c : tie.After-known-told) → let a = c .before .before .before .before .before .before .before .before .before .before .before .args in AccessListsPromise (a .width) (a .height) (now (a .cells)) (now (a .resources)) zeroLists (lent (indices c) (ends c)) (listed (count c))
 unfolding listedOf
-made c = rw (c .before .found .given .1) at (c .before .before .before .before .before .access-lists .ensures)
+made c = rw (c .before .found .given .1, c .before .before .before .before .before .before .before .before .access-cells .ensures) at (c .before .before .before .before .before .access-lists .ensures)
 
 -- and they stand in the arrays
-long : (c : tie.After-known-told) → (count c ≤ length (indices c)) × (length (now (c .before .before .before .before .before .before .before .before .before .before .args .resources)) / 4 ≤ length (ends c))
-long c = let a = c .before .before .before .before .before .before .before .before .before .before .args in lists-long (a .width) (a .height) (now (a .cells)) (now (a .resources)) zeroLists (made c)
+long : (c : tie.After-known-told) → (count c ≤ length (indices c)) × (length (now (c .before .before .before .before .before .before .before .before .before .before .before .args .resources)) / 4 ≤ length (ends c))
+long c = let a = c .before .before .before .before .before .before .before .before .before .before .before .args in lists-long (a .width) (a .height) (now (a .cells)) (now (a .resources)) zeroLists (made c)
+
+access-cells-requires : tie.Need-access-cells-requires
+access-cells-requires c κs = tt
 
 slice-aggregate-access-lists : tie.Need-slice-aggregate-access-lists
-slice-aggregate-access-lists c = search needs
+slice-aggregate-access-lists c = rw (c .before .access-cells .ensures) (sym (length-replicate {A = ℕ} 28800 0))
 
 slice-aggregate-access-lists-2 : tie.Need-slice-aggregate-access-lists-2
 slice-aggregate-access-lists-2 c = search needs
@@ -52,7 +55,7 @@ enum-told c = search needs
 
 returns : tie.Need-returns
 unfolding listedOf
-returns c = absurd (lists-made (c .before .before .before .before .before .before .before .before .before .pre) (rw (c .enum-told .given .1) at (c .before .before .before .before .access-lists .ensures)))
+returns c = absurd (lists-made (c .before .before .before .before .before .before .before .before .before .before .pre) (rw (c .enum-told .given .1, c .before .before .before .before .before .before .before .access-cells .ensures) at (c .before .before .before .before .access-lists .ensures)))
 
 array-share-prefix-indices : tie.Need-array-share-prefix-indices
 array-share-prefix-indices c = long c .0
@@ -67,7 +70,7 @@ slice-aggregate-joined-2 : tie.Need-slice-aggregate-joined-2
 slice-aggregate-joined-2 c = sym (length-take-le _ (ends (c .before .before)) (long (c .before .before) .1))
 
 joined-requires : tie.Need-joined-requires
-joined-requires c κs = join-accepted (c .before .before .before .before .before .before .before .before .before .before .before .before .before .pre) (made (c .before .before .before))
+joined-requires c κs = join-accepted (c .before .before .before .before .before .before .before .before .before .before .before .before .before .before .pre) (made (c .before .before .before))
 
 same-length : tie.Need-same-length
 same-length c = search needs
@@ -79,6 +82,7 @@ pub groups-spec : {M : Type 1} → statement M
 groups-spec =
     tie.close
     (tie.spec
+    access-cells-requires
     slice-aggregate-access-lists
     slice-aggregate-access-lists-2
     access-lists-requires
