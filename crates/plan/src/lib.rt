@@ -2,6 +2,7 @@
 pub mod site;
 
 use crate::site::Site;
+use fournumbers::Corners;
 use judge::verdict::Verdict;
 use refusals;
 use rings::ring;
@@ -72,7 +73,12 @@ pub fn site_of(
     ensures { λ r. ⌜ SiteOf width height lanes (now (resources .entry)) (corners left top right bottom) r ⌝ }
 {
     let sources = ring::sources(resources, width, height);
-    let targets = targetbox::cells_of(left, top, right, bottom);
+    let targets = targetbox::cells_of(Corners {
+        left,
+        top,
+        right,
+        bottom,
+    });
     let window = record::window_of(sources, targets, width, height, lanes);
     Site {
         width,

@@ -1,4 +1,4 @@
--- What is known of a room whose field call at 8 lanes was accepted: its fields can be found, and its window, its targets and its sweep count go on a sheet.
+-- What is known of a room once the field call at 8 lanes has answered: where it was accepted its fields can be found, and its window, its targets and its sweep count go on a sheet.
 use mathlib.Core.Path.{_≡_}
 use mathlib.Core.Bool.{false}
 use mathlib.Core.List.{List}
@@ -9,9 +9,9 @@ use lib.ListN.{length, length-replicate}
 use borrow.Author.Tests.{ltb-false}
 use Rattle.walkgraph.specs.Painting.{rectangle}
 use Rattle.walkgraph.specs.Buffers.{Lent, resourceCount, sourceBox, windowOf}
-use Rattle.walkgraph.specs.Reading.{WindowRecord, recordOf, noWindow}
+use Rattle.walkgraph.specs.Reading.{recordOf, noWindow}
 use Rattle.walkgraph.specs.Refusals.{accepted, badGrid, badFours, badResource, firstBadResource, badSpan, FieldInput, callOf, fieldVerdict}
-use Rattle.walkgraph.specs.Promise.{FieldPromise, made, nothing, makes}
+use Rattle.walkgraph.specs.Promise.{FieldAnswer, FieldPromise, refuses, nothing, makes}
 use Rattle.walkgraph.proofs.Lists.{first-from}
 use Rattle.walklaws.proofs.FieldCall.{counted-most}
 use Rattle.cells.specs.Boxes.{reach, InMap}
@@ -22,7 +22,7 @@ use Rattle.judge.proofs.Judging.{accepted-parts}
 use Rattle.window.proofs.Edges.{window-in-map}
 use Rattle.targetbox.specs.TargetBox.{Natural, cellsOf}
 use Rattle.groups.specs.Groups.{GroupsFit}
-use Rattle.sheets.specs.Shown.{zeroAnswers, ShownFits}
+use Rattle.sheets.specs.Shown.{zeroAnswers, AnswerFits, line-fits, shown-fits}
 use Rattle.sheets.specs.Drawings.{zeroField, DrawFits}
 
 -- what the table judges before the lent buffers
@@ -66,17 +66,7 @@ window-on-map i f w h some =
     (sources-in-map (i .width) (i .height) (i .resources) (record { wide = omega (arith, w); high = omega (arith, h); some = some; good = f .good }))
     (record { across = f .across .across; wide = f .across .wide; along = f .along .across; tall = f .along .wide })
 
--- ---- an accepted call at 8 lanes
-pub box-natural : (i : FieldInput) {after : Lent} {window : WindowRecord} {sweeps : ℕ} → FieldPromise reach i zeroField after (made window sweeps) → Natural (i .targets)
-box-natural i p = by-found (of p)
-  where
-    of : {after : Lent} {window : WindowRecord} {sweeps : ℕ} → FieldPromise reach i zeroField after (made window sweeps) → Found i
-    of (nothing ok none) = found i zeroField ok
-    of (makes ok some f) = found i zeroField ok
-
-    by-found : Found i → Natural (i .targets)
-    by-found f = record { left = f .across .low-is; top = f .along .low-is; right = f .across .high-is; bottom = f .along .high-is }
-
+-- ---- a call at 8 lanes
 module _ (i : FieldInput) (page : List ℕ) (fits : DrawFits (i .width) (i .height) page) (eight : i .lanes ≡ 8) where
   -- its resources can be joined
   can-group : Found i → GroupsFit (i .width) (i .height) (i .cells) (i .resources) zeroAnswers
@@ -99,16 +89,22 @@ module _ (i : FieldInput) (page : List ℕ) (fits : DrawFits (i .width) (i .heig
         tall = omega (arith, f .along .wide, fits .rows);
       }
 
-  pub can-show : {after : Lent} {window : WindowRecord} {sweeps : ℕ} → FieldPromise reach i zeroField after (made window sweeps) →
-      ShownFits (i .width) (i .height) (i .cells) (i .resources) window sweeps (cellsOf (i .targets)) page
+  -- its target box is not negative
+  natural : Found i → Natural (i .targets)
+  natural f = record { left = f .across .low-is; top = f .along .low-is; right = f .across .high-is; bottom = f .along .high-is }
+
+  pub can-answer : {after : Lent} {answer : FieldAnswer} → FieldPromise reach i zeroField after answer → AnswerFits (i .width) (i .height) (i .cells) (i .resources) (i .targets) page answer
   unfolding noWindow recordOf callOf
-  can-show (nothing ok none) =
+  can-answer (refuses e) = line-fits (fits .room)
+  can-answer (nothing ok none) =
       let f = found i zeroField ok in
-      record { groups = can-group f; left = omega arith; top = omega arith; wide = omega arith; tall = omega arith; swept = omega arith; box = in-sixty f; room = fits .room }
-  can-show (makes {sweeps = sweeps} ok some f) =
+      shown-fits {window = noWindow (i .lanes)} {sweeps = 0} (natural f)
+      (record { groups = can-group f; left = omega arith; top = omega arith; wide = omega arith; tall = omega arith; swept = omega arith; box = in-sixty f; room = fits .room })
+  can-answer (makes {sweeps = sweeps} ok some f) =
       let g = found i zeroField ok in
       let m = window-on-map i g (fits .columns) (fits .rows) some in
-      record {
+      shown-fits {window = recordOf (callOf reach i)} {sweeps = sweeps} (natural g)
+      (record {
         groups = can-group g;
         left = omega (arith, m .across, m .wide, fits .columns);
         top = omega (arith, m .along, m .tall, fits .rows);
@@ -117,4 +113,4 @@ module _ (i : FieldInput) (page : List ℕ) (fits : DrawFits (i .width) (i .heig
         swept = omega (arith, counted-most (callOf reach i) sweeps (f .count) (omega arith));
         box = in-sixty g;
         room = fits .room;
-      }
+      })

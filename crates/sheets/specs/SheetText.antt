@@ -13,10 +13,10 @@ use Rattle.plan.specs.Plans.{inputOf}
 use Rattle.roomlines.specs.Fours.{numbersOf}
 use Rattle.roomrows.specs.Rows.{cellsOf}
 use Rattle.roomtext.specs.Room.{Room, roomText, Formed, Breaks}
-use Rattle.textverdict.specs.Verdicts.{inLimits}
+use Rattle.textverdict.specs.Verdicts.{inLimits, Verdict, accepted, refused}
 use Rattle.page.specs.Lines.{refusalLine}
 use Rattle.sheettext.specs.Sheets.{PutsWithin}
-use Rattle.sheets.specs.Drawings.{Drawing}
+use Rattle.sheets.specs.Drawings.{Drawing, PutsDrawing}
 
 -- ---- the sheet of a text
 
@@ -51,12 +51,20 @@ abbrev pub readInput : (width height blockers resources : ℕ) (cells : List ℕ
 readInput width height blockers resources cells numbers =
     inputOf width height (take (width * height) cells) 8 (take (4 * blockers) numbers) (slice (4 * blockers) (4 * (blockers + resources)) numbers) (rectangle numbers (blockers + resources))
 
--- it is in the limits, it stands there, and the page is long enough
-pub record ReadFits (width height blockers resources : ℕ) (cells : List ℕ) (numbers : List ℤ) (page : List ℕ) : Type 0 where
-  pub columns : width ≤ 60
-  pub rows : height ≤ 60
-  pub painted : blockers ≤ 64
-  pub few : resources ≤ 8
+-- a verdict on a text that is no room over the limits
+unfoldable pub small : Verdict → Bool
+small (accepted width height blockers resources) = inLimits width height blockers resources
+small (refused number place) = true
+
+-- a room that was read is in the limits, it stands there, and the page is long enough
+pub record ReadFits (verdict : Verdict) (cells : List ℕ) (numbers : List ℤ) (page : List ℕ) : Type 0 where
+  pub limits : small verdict ≡ true
   pub cells-room : 8192 ≤ length cells
   pub numbers-room : 8192 ≤ length numbers
   pub page-room : 200000 ≤ length page
+
+-- the line of a refusal, or the sheet of the room that was read, put on a page
+pub data PutsVerdict (cells : List ℕ) (numbers : List ℤ) (before after : List ℕ) (end : ℕ) : Verdict → Type 0 where
+  puts-line : {number place : ℕ} → PutsWithin 200000 (refusalLine number place) before 0 after end → PutsVerdict cells numbers before after end (refused number place)
+  puts-drawing : {width height blockers resources : ℕ} → PutsDrawing (readInput width height blockers resources cells numbers) before after end →
+      PutsVerdict cells numbers before after end (accepted width height blockers resources)

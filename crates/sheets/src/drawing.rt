@@ -1,9 +1,7 @@
-// The sheet of a room, put on a page: the field call judges the room and makes its field, and the sheet shows it with its resources' fields.
-use crate::fieldsheet;
-use fieldanswer::Answer;
-use page::lines;
-use targetbox;
-ghost use Rattle.rings.specs.Rings.{corners};
+// The sheet of a room, put on a page: the field call judges the room and makes its field, and the sheet shows what it answers.
+use crate::answersheet;
+use fournumbers::Corners;
+ghost use Rattle.fournumbers.specs.Corners.{cornersOf};
 ghost use Rattle.plan.specs.Plans.{inputOf};
 ghost use Rattle.sheets.specs.Drawings.{DrawFits, PutsDrawing};
 
@@ -15,13 +13,10 @@ pub fn draw(
     cells: &[u8],
     blockers: &[i32],
     resources: &[i32],
-    left: i32,
-    top: i32,
-    right: i32,
-    bottom: i32,
+    targets: Corners,
 ) -> usize
     requires { ⌜ DrawFits width height (now page) ⌝ }
-    ensures { λ r. ⌜ PutsDrawing (inputOf width height (now (cells .entry)) 8 (now (blockers .entry)) (now (resources .entry)) (corners left top right bottom))
+    ensures { λ r. ⌜ PutsDrawing (inputOf width height (now (cells .entry)) 8 (now (blockers .entry)) (now (resources .entry)) (cornersOf targets))
         (now (page .entry)) (now (page .exit)) r ⌝ }
 {
     let mut lanes: [i16; 30752] = [0; 30752];
@@ -38,10 +33,10 @@ pub fn draw(
         8,
         blockers,
         resources,
-        left,
-        top,
-        right,
-        bottom,
+        targets.left,
+        targets.top,
+        targets.right,
+        targets.bottom,
         &mut lanes,
         &mut walk,
         &mut flags,
@@ -50,23 +45,14 @@ pub fn draw(
         &mut pulled_down,
         &mut pulled_up,
     );
-    match found {
-        Answer::Refused { number, place } => {
-            return lines::refusal(page, 0, number, place);
-        }
-        Answer::Made { window, sweeps } => {
-            let targets = targetbox::cells_of(left, top, right, bottom);
-            return fieldsheet::shown(
-                page,
-                width,
-                height,
-                cells,
-                resources,
-                window,
-                sweeps,
-                targets,
-                &lanes,
-            );
-        }
-    }
+    answersheet::answered(
+        page,
+        width,
+        height,
+        cells,
+        resources,
+        targets,
+        found,
+        &lanes,
+    )
 }

@@ -1,9 +1,10 @@
 // The library function of the program `sheet`: a room's text in, its sheet's text out.
+mod answersheet;
 mod drawing;
-mod fieldsheet;
 mod roomsheet;
 
 use delivery;
+use textverdict;
 ghost use Rattle.sheets.specs.Promise.{SheetPromise};
 
 // Writes the sheet of a text, or the line of its refusal, to the start of a buffer; answers how many bytes that were. A buffer that is too short gets nothing, and the answer is 0.
@@ -11,6 +12,9 @@ pub fn sheet(text: &[u8], out: &mut [u8]) -> usize
     ensures { λ r. ⌜ SheetPromise (now (text .entry)) (now (out .entry)) (now (out .exit)) r ⌝ }
 {
     let mut page: [u8; 200000] = [0; 200000];
-    let end = roomsheet::written(text, &mut page);
+    let mut cells: [u8; 8192] = [0; 8192];
+    let mut numbers: [i32; 8192] = [0; 8192];
+    let judged = textverdict::read(text, &mut cells, &mut numbers);
+    let end = roomsheet::drawn(&mut page, judged, &cells, &numbers);
     delivery::delivered(&page[..end], out)
 }

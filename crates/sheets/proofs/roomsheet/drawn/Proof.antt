@@ -1,129 +1,119 @@
--- `sheets::roomsheet::drawn`: the parts of the buffers are in them, and the four numbers of the target box are read as they stand.
+-- `sheets::roomsheet::drawn`: the verdict is a refusal, whose line is put, or a room, whose parts of the buffers are in them and whose sheet is put.
 use mathlib.Core.Path.{sym}
-use Prim.Native.Nat.{_+_, _*_, _≤_}
+use Prim.Native.Nat.{_+_, _*_}
 use native.Mathlib.Omega.{arith}
-use lib.IntN.{pos}
-use lib.ListN.{getD}
+use denote.Ref.{now}
 use lib.Seq.{length-take-le}
-use mir.Syntax.{w32}
-use mir.ValLaws.{toZ-ofZ}
-use borrow.Author.Needs.{needs, sfits-of}
-use Rattle.walkgraph.specs.Painting.{rectangle}
-use Rattle.sheets.proofs.Rooms.{read-area, part-is, columns-fit, rows-fit, rectangles-few, blockers-end, blockers-bytes, resources-end, resources-after, resources-inside, box-bytes, box-inside, corner-place, corner-bytes, corner-inside}
+use borrow.Author.Needs.{needs}
+use Rattle.textverdict.specs.Verdicts.{accepted}
+use Rattle.textverdict.specs.Answers.{verdictOf}
+use Rattle.sheets.specs.SheetText.{ReadFits, puts-line, puts-drawing}
+use Rattle.sheets.proofs.RoomDrawn.{line-room, line-put}
+use Rattle.sheets.proofs.Rooms.{part-is, RoomRead, room-read, read-area, columns-fit, rows-fit, rectangles-few, blockers-end, blockers-bytes, blockers-inside, resources-end, resources-after, resources-inside, box-inside}
 use Rattle.sheets.proofs.roomsheet.drawn.Statement.{statement}
 use Rattle.sheets.proofs.roomsheet.drawn.Tie as tie
 
-one : 1 ≤ 3
-one = omega arith
+-- the room that was read, as it stands in the buffers
+read : (c : tie.After-known-told2) → let v = c .before .judged2 .given .0 in let a = c .before .before .before .before .before .args in ReadFits (accepted (v .0) (v .1 .0) (v .1 .1 .0) (v .1 .1 .1 .0)) (now (a .cells)) (now (a .numbers)) (now (a .page))
+unfolding verdictOf
+read c = rw (c .before .judged2 .given .1) at (c .before .before .before .before .before .pre)
 
-two : 2 ≤ 3
-two = omega arith
+-- it is in the limits
+room : (c : tie.After-known-told2) → let v = c .before .judged2 .given .0 in RoomRead (v .0) (v .1 .0) (v .1 .1 .0) (v .1 .1 .1 .0)
+room c = room-read (read c .limits)
 
-three : 3 ≤ 3
-three = omega arith
+enum-known-judged : tie.Need-enum-known-judged
+enum-known-judged c = search needs
 
-mul-from : tie.Need-mul-from
-mul-from c = blockers-end (c .before .before .pre)
-
-add-to : tie.Need-add-to
-add-to c = rectangles-few (c .before .before .pre)
-
-mul-to : tie.Need-mul-to
-mul-to c = resources-end (c .before .before .pre)
-
-cast-draw : tie.Need-cast-draw
-cast-draw c = columns-fit (c .before .before .before .pre)
-
-cast-draw-2 : tie.Need-cast-draw-2
-cast-draw-2 c = rows-fit (c .before .before .before .pre)
-
-mul-draw : tie.Need-mul-draw
-mul-draw c = record { fits = omega (arith, read-area (c .before .before .before .pre)) }
-
-slice-aggregate-draw : tie.Need-slice-aggregate-draw
-slice-aggregate-draw c =
-    let b = c .before .before .before .before in
-    sym (length-take-le _ (b .args .cells .now) (omega (arith, read-area (b .pre), b .pre .cells-room)))
-
-slice-aggregate-draw-2 : tie.Need-slice-aggregate-draw-2
-slice-aggregate-draw-2 c =
-    let b = c .before .before .before .before .before in
-    sym (length-take-le _ (b .args .numbers .now) (omega (arith, b .pre .painted, b .pre .numbers-room)))
-
-mul-draw-2 : tie.Need-mul-draw-2
-mul-draw-2 c = blockers-bytes (c .before .before .before .before .before .pre)
-
-sub-draw : tie.Need-sub-draw
-sub-draw c = resources-after (c .before .before .before .before .before .pre)
-
-part-draw-start : tie.Need-part-draw-start
-part-draw-start c = resources-after (c .before .before .before .before .before .pre)
-
-part-draw-end : tie.Need-part-draw-end
-part-draw-end c = resources-inside (c .before .before .before .before .before .pre)
-
-mul-draw-3 : tie.Need-mul-draw-3
-mul-draw-3 c = box-bytes (c .before .before .before .before .before .before .pre)
-
-shared-slice-copy-out-draw : tie.Need-shared-slice-copy-out-draw
-shared-slice-copy-out-draw c = box-inside (c .before .before .before .before .before .before .pre)
-
-add-draw : tie.Need-add-draw
-add-draw c = corner-place (c .before .before .before .before .before .before .before .pre) 1 one
-
-mul-draw-4 : tie.Need-mul-draw-4
-mul-draw-4 c = corner-bytes (c .before .before .before .before .before .before .before .pre) 1 one
-
-shared-slice-copy-out-draw-2 : tie.Need-shared-slice-copy-out-draw-2
-shared-slice-copy-out-draw-2 c = corner-inside (c .before .before .before .before .before .before .before .pre) 1 one
-
-add-draw-2 : tie.Need-add-draw-2
-add-draw-2 c = corner-place (c .before .before .before .before .before .before .before .before .pre) 2 two
-
-mul-draw-5 : tie.Need-mul-draw-5
-mul-draw-5 c = corner-bytes (c .before .before .before .before .before .before .before .before .pre) 2 two
-
-shared-slice-copy-out-draw-3 : tie.Need-shared-slice-copy-out-draw-3
-shared-slice-copy-out-draw-3 c = corner-inside (c .before .before .before .before .before .before .before .before .pre) 2 two
-
-add-draw-3 : tie.Need-add-draw-3
-add-draw-3 c = corner-place (c .before .before .before .before .before .before .before .before .before .pre) 3 three
-
-mul-draw-6 : tie.Need-mul-draw-6
-mul-draw-6 c = corner-bytes (c .before .before .before .before .before .before .before .before .before .pre) 3 three
-
-shared-slice-copy-out-draw-4 : tie.Need-shared-slice-copy-out-draw-4
-shared-slice-copy-out-draw-4 c = corner-inside (c .before .before .before .before .before .before .before .before .before .pre) 3 three
-
-draw-requires : tie.Need-draw-requires
-draw-requires c κs =
-    let f = c .before .before .before .before .before .before .before .before .before .before .pre in
-    record { columns = f .columns; rows = f .rows; room = f .page-room }
+refusal-requires : tie.Need-refusal-requires
+refusal-requires c κs = let d = c .before in line-room _ _ (omega (arith, d .known-told .given)) (omega (arith, d .known-told .given)) _ (c .before .before .before .before .before .before .pre .page-room)
 
 same-length : tie.Need-same-length
 same-length c = search needs
 
 returns : tie.Need-returns
-unfolding rectangle
+unfolding verdictOf
 returns c =
-    let b = c .before .before .before .before .before .before .before .before .before .before .before .before .before in
-    let l = b .args .numbers .now in
-    let at = 4 * (b .args .blockers + b .args .resources) in
-    rw (
-      part-is (4 * b .args .blockers) at l,
-      toZ-ofZ w32 (getD l at (pos 0)) (sfits-of (c .before .before .before .before .before .before .draw-arg5 .given)),
-      toZ-ofZ w32 (getD l (at + 1) (pos 0)) (sfits-of (c .before .before .before .before .before .draw-arg6 .given)),
-      toZ-ofZ w32 (getD l (at + 2) (pos 0)) (sfits-of (c .before .before .before .before .draw-arg7 .given)),
-      toZ-ofZ w32 (getD l (at + 3) (pos 0)) (sfits-of (c .before .before .before .draw-arg8 .given)),
-    ) at (c .before .before .draw .ensures)
+    let d = c .before .before .before .before in
+    rw (d .before .judged .given .1) (puts-line (line-put _ _ (omega (arith, d .known-told .given)) (omega (arith, d .known-told .given)) (c .before .before .refusal .ensures)))
+
+enum-known-judged-2 : tie.Need-enum-known-judged-2
+enum-known-judged-2 c = search needs
+
+mul-from : tie.Need-mul-from
+mul-from c = blockers-end (room c)
+
+add-to : tie.Need-add-to
+add-to c = rectangles-few (room c)
+
+mul-to : tie.Need-mul-to
+mul-to c = resources-end (room c)
+
+add-corners-at : tie.Need-add-corners-at
+add-corners-at c = rectangles-few (room c)
+
+corners-at-requires : tie.Need-corners-at-requires
+corners-at-requires c κs = box-inside (room c) (now (c .before .before .before .before .before .args .numbers)) (read c .numbers-room)
+
+cast-draw : tie.Need-cast-draw
+cast-draw c = columns-fit (room (c .before .before))
+
+cast-draw-2 : tie.Need-cast-draw-2
+cast-draw-2 c = rows-fit (room (c .before .before))
+
+mul-draw : tie.Need-mul-draw
+mul-draw c = record { fits = omega (arith, read-area (room (c .before .before))) }
+
+slice-aggregate-draw : tie.Need-slice-aggregate-draw
+slice-aggregate-draw c =
+    let d = c .before .before .before in
+    sym (length-take-le _ (now (d .before .before .before .before .before .args .cells)) (omega (arith, read-area (room d), read d .cells-room)))
+
+slice-aggregate-draw-2 : tie.Need-slice-aggregate-draw-2
+slice-aggregate-draw-2 c =
+    let d = c .before .before .before .before in
+    sym (length-take-le _ (now (d .before .before .before .before .before .args .numbers)) (blockers-inside (room d) (now (d .before .before .before .before .before .args .numbers)) (read d .numbers-room)))
+
+mul-draw-2 : tie.Need-mul-draw-2
+mul-draw-2 c = blockers-bytes (room (c .before .before .before .before))
+
+sub-draw : tie.Need-sub-draw
+sub-draw c = resources-after (room (c .before .before .before .before))
+
+part-draw-start : tie.Need-part-draw-start
+part-draw-start c = resources-after (room (c .before .before .before .before))
+
+part-draw-end : tie.Need-part-draw-end
+part-draw-end c = let d = c .before .before .before .before in resources-inside (room d) (now (d .before .before .before .before .before .args .numbers)) (read d .numbers-room)
+
+draw-requires : tie.Need-draw-requires
+draw-requires c κs = let d = c .before .before .before .before .before in let r = room d in record { columns = r .columns; rows = r .rows; room = read d .page-room }
+
+same-length-2 : tie.Need-same-length-2
+same-length-2 c = search needs
+
+returns-2 : tie.Need-returns-2
+unfolding verdictOf
+returns-2 c =
+    let d = c .before .before .before .before .before .before .before .before in
+    let v = d .before .judged2 .given .0 in
+    rw (d .before .judged2 .given .1)
+    (puts-drawing (rw (part-is (4 * v .1 .1 .0) (4 * (v .1 .1 .0 + v .1 .1 .1 .0)) (now (d .before .before .before .before .before .args .numbers)), c .before .before .before .before .before .before .before .corners-at .ensures) at (c .before .before .draw .ensures)))
 
 pub drawn-spec : {M : Type 1} → statement M
 drawn-spec =
     tie.close
     (tie.spec
+    enum-known-judged
+    refusal-requires
+    same-length
+    returns
+    enum-known-judged-2
     mul-from
     add-to
     mul-to
+    add-corners-at
+    corners-at-requires
     cast-draw
     cast-draw-2
     mul-draw
@@ -133,17 +123,6 @@ drawn-spec =
     sub-draw
     part-draw-start
     part-draw-end
-    mul-draw-3
-    shared-slice-copy-out-draw
-    add-draw
-    mul-draw-4
-    shared-slice-copy-out-draw-2
-    add-draw-2
-    mul-draw-5
-    shared-slice-copy-out-draw-3
-    add-draw-3
-    mul-draw-6
-    shared-slice-copy-out-draw-4
     draw-requires
-    same-length
-    returns)
+    same-length-2
+    returns-2)

@@ -1,0 +1,2 @@
+-- What the contract of this crate speaks of: the four numbers of a rectangle.
+pub mod Corners
