@@ -1,6 +1,6 @@
 -- `cellstate::deepest`: the depth of the state at the point's cell.
+use mathlib.Core.Path.{refl}
 use native.Mathlib.Omega.{arith}
-use borrow.Author.Needs.{needs}
 use Rattle.cellstate.proofs.deepest.Statement.{statement}
 use Rattle.cellstate.proofs.deepest.Tie as tie
 
@@ -23,7 +23,7 @@ shared-slice-read-result : tie.Need-shared-slice-read-result
 shared-slice-read-result c = c .before .pre
 
 returns : tie.Need-returns
-returns c = search needs
+returns c = refl
 
 pub deepest-spec : {M : Type 1} → statement M
 deepest-spec = tie.close (tie.spec cast-result mul-result cast-result-2 add-result mul-result-2 shared-slice-read-result returns)
