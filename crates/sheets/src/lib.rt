@@ -4,6 +4,7 @@ mod drawing;
 mod roomsheet;
 
 use delivery;
+use roomarrays;
 use textverdict;
 ghost use Rattle.sheets.specs.Promise.{SheetPromise};
 
@@ -11,7 +12,7 @@ ghost use Rattle.sheets.specs.Promise.{SheetPromise};
 pub fn sheet(text: &[u8], out: &mut [u8]) -> usize
     ensures { λ r. ⌜ SheetPromise (now (text .entry)) (now (out .entry)) (now (out .exit)) r ⌝ }
 {
-    let mut page: [u8; 200000] = [0; 200000];
+    let mut page = roomarrays::sheet();
     let mut cells: [u8; 8192] = [0; 8192];
     let mut numbers: [i32; 8192] = [0; 8192];
     let judged = textverdict::read(text, &mut cells, &mut numbers);
