@@ -1,6 +1,9 @@
 -- `sheets::drawing::draw`: the field call answers, and the sheet shows what it answers.
-use mathlib.Core.Path.{refl}
+use mathlib.Core.Path.{refl, sym}
+use Prim.Native.Nat.{ℕ}
 use denote.Ref.{now}
+use lib.IntN.{ℤ, pos}
+use lib.ListN.{length-replicate}
 use mir.Syntax.{w32}
 use mir.ValLaws.{toZ-ofZ}
 use borrow.Author.Needs.{needs, sfits-of}
@@ -38,31 +41,31 @@ promised c =
     ) at (c .field .ensures)
 
 slice-aggregate-field : tie.Need-slice-aggregate-field
-slice-aggregate-field c = search needs
+slice-aggregate-field c = sym (length-replicate {A = ℤ} 30752 (pos 0))
 
 slice-aggregate-field-2 : tie.Need-slice-aggregate-field-2
-slice-aggregate-field-2 c = search needs
+slice-aggregate-field-2 c = sym (length-replicate {A = ℕ} 3844 0)
 
 slice-aggregate-field-3 : tie.Need-slice-aggregate-field-3
-slice-aggregate-field-3 c = search needs
+slice-aggregate-field-3 c = sym (length-replicate {A = ℕ} 3844 0)
 
 slice-aggregate-field-4 : tie.Need-slice-aggregate-field-4
-slice-aggregate-field-4 c = search needs
+slice-aggregate-field-4 c = sym (length-replicate {A = ℕ} 120 0)
 
 slice-aggregate-field-5 : tie.Need-slice-aggregate-field-5
-slice-aggregate-field-5 c = search needs
+slice-aggregate-field-5 c = sym (length-replicate {A = ℕ} 62 0)
 
 slice-aggregate-field-6 : tie.Need-slice-aggregate-field-6
-slice-aggregate-field-6 c = search needs
+slice-aggregate-field-6 c = sym (length-replicate {A = ℕ} 62 0)
 
 slice-aggregate-field-7 : tie.Need-slice-aggregate-field-7
-slice-aggregate-field-7 c = search needs
+slice-aggregate-field-7 c = sym (length-replicate {A = ℕ} 62 0)
 
 field-requires : tie.Need-field-requires
 field-requires c κs = search needs
 
 slice-aggregate-answered : tie.Need-slice-aggregate-answered
-slice-aggregate-answered c = search needs
+slice-aggregate-answered c = rw (c .before .before .before .before .before .before .before .before .before .field .kept .1 .1 .1 .1 .1 .1 .1 .1 .1 .1 .0) (sym (length-replicate {A = ℤ} 30752 (pos 0)))
 
 answered-requires : tie.Need-answered-requires
 answered-requires c κs =
