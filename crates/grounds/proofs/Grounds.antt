@@ -32,8 +32,7 @@ use Rattle.walkbytes.proofs.WalkMade.{walk-made}
 use Rattle.flags.proofs.FlagsMade.{bytes-small}
 use Rattle.intervals.proofs.RowsMade.{first-made, past-made}
 use Rattle.lane.specs.Levels.{LaneCount}
-use Rattle.startring.specs.Hits.{Room}
-use Rattle.startcells.specs.Hits.{startedLevels}
+use Rattle.start.specs.Hits.{Room, startedLevels}
 use Rattle.grounds.specs.Grounds.{unreachableLevels}
 
 -- the window in the limits of a map

@@ -16,8 +16,7 @@ ghost use Rattle.window.specs.Fills.{entries};
 ghost use Rattle.walkbytes.specs.Filled.{walkFilled};
 ghost use Rattle.flags.specs.Flags.{flagsFilled};
 ghost use Rattle.intervals.specs.Intervals.{rowsFilled};
-ghost use Rattle.startcells.specs.Hits.{startedLevels};
-ghost use Rattle.start.specs.Hits.{lanesHit};
+ghost use Rattle.start.specs.Hits.{startedLevels, lanesHit};
 ghost use Rattle.grounds.specs.Grounds.{GroundFits, BeginFits, unreachableLevels};
 
 // The walk bytes and the flags of the window.

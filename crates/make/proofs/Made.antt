@@ -27,8 +27,7 @@ use Rattle.window.proofs.Fills.{placed-past}
 use Rattle.walkbytes.proofs.WalkMade.{walk-made, walk-stays}
 use Rattle.flags.proofs.FlagsMade.{flags-made, flags-stay}
 use Rattle.intervals.proofs.RowsMade.{first-made, past-made, rows-stay}
-use Rattle.startcells.specs.Hits.{startedLevels}
-use Rattle.start.specs.Hits.{lanesHit}
+use Rattle.start.specs.Hits.{startedLevels, lanesHit}
 use Rattle.start.proofs.HitsAre.{hits-are}
 use Rattle.sweep.specs.Sweeps.{Run, Ended}
 use Rattle.sweep.specs.Buffers as sweep

@@ -18,8 +18,7 @@ use Rattle.window.specs.Fills.{entries}
 use Rattle.walkbytes.specs.Filled.{walkFilled}
 use Rattle.flags.specs.Flags.{flagsFilled}
 use Rattle.intervals.specs.Intervals.{rowsFilled}
-use Rattle.startcells.specs.Hits.{startedLevels}
-use Rattle.start.specs.Hits.{lanesHit}
+use Rattle.start.specs.Hits.{startedLevels, lanesHit}
 use Rattle.sweep.specs.Buffers as sweep
 use Rattle.row.specs.Buffers.{groundOf}
 use Rattle.sweep.specs.Buffers.{runOf, Stops}

@@ -18,7 +18,7 @@ use Rattle.walkgraph.proofs.Lists.{getD-tabulate, placed-in, placed-below}
 use Rattle.walklaws.proofs.FieldCall.{reach-is}
 use Rattle.window.specs.Fills.{entries, zeros}
 use Rattle.window.proofs.Fills.{placed-front, placed-past}
-use Rattle.startcells.specs.Hits.{startedLevels}
+use Rattle.start.specs.Hits.{startedLevels}
 use Rattle.plainsweeps.proofs.Columns.{slot}
 use Rattle.plainsweeps.proofs.RowLevels.{Holds}
 use Rattle.versions.specs.Versions.{never, BeforeSweeps}

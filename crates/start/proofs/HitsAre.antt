@@ -19,10 +19,8 @@ use Rattle.walklaws.proofs.FieldCall.{shut, width-is, height-is}
 use Rattle.walkgraph.proofs.Sweeps.{PaddingShut}
 use Rattle.window.specs.declared.record.Window.{Window}
 use Rattle.window.specs.Windows.{windowOver}
-use Rattle.startcells.specs.Hits.{startsHere, cellsHit}
-use Rattle.startring.specs.Hits.{firstColumn, pastColumn, rowHit, ringHit}
-use Rattle.start.specs.Hits.{lanesHit}
-use Rattle.startcells.proofs.Some.{some-at, at-some}
+use Rattle.start.specs.Hits.{startsHere, cellsHit, firstColumn, pastColumn, rowHit, ringHit, lanesHit}
+use Rattle.start.proofs.Some.{some-at, at-some}
 
 module _ (c : Call) (walk rows : List ℕ) (fits : resourceCount c ≤ c .lanes)
     (walk-is : (x y : ℕ) → x < paddedOf c .width + 2 → y < paddedOf c .height + 2 → getD walk (cellPlace (paddedOf c) x y) 0 ≡ walkByte (paddedOf c) x y)

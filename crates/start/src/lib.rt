@@ -1,4 +1,7 @@
 // Where lanes start: at the inside, walkable ring cells of their resource.
+mod ringbox;
+mod stretch;
+
 use rings::ring;
 use rings::ring::Ring;
 use window::record::Window;
@@ -8,9 +11,7 @@ ghost use lib.ListN.{length};
 ghost use Rattle.walkgraph.specs.Painting.{rectangle};
 ghost use Rattle.walkgraph.specs.Ring.{body, ringBox};
 ghost use Rattle.lane.specs.Levels.{levelAt};
-ghost use Rattle.startcells.specs.Hits.{startedLevels};
-ghost use Rattle.startring.specs.Hits.{ringHit};
-ghost use Rattle.start.specs.Hits.{lanesHit, LaneRoom, LanesRoom};
+ghost use Rattle.start.specs.Hits.{startedLevels, ringHit, lanesHit, LaneRoom, LanesRoom};
 
 // Starts the lane of one resource.
 pub fn start_lane(
@@ -28,7 +29,7 @@ pub fn start_lane(
         (ringBox width height (rectangle (now (resources .entry)) lane)) (body (rectangle (now (resources .entry)) lane)) lane) ⌝ }
 {
     match ring::ring_at(resources, lane, width, height) {
-        Ring::Present { ring, body } => startring::start_ring(
+        Ring::Present { ring, body } => ringbox::start_ring(
             lanes,
             walk,
             rows,

@@ -7,11 +7,9 @@ use denote.Ref.{now}
 use Rattle.walkgraph.specs.Painting.{Rectangle, rectangle}
 use Rattle.walkgraph.specs.Ring.{body, ringBox}
 use Rattle.lane.specs.Levels.{levelAt}
-use Rattle.startcells.specs.Hits.{startedLevels}
-use Rattle.startring.specs.Hits.{ringHit}
-use Rattle.start.specs.Hits.{lanesHit}
-use Rattle.startcells.proofs.Some.{some-none, started-none}
-use Rattle.startcells.proofs.Turns.{turn-more}
+use Rattle.start.specs.Hits.{startedLevels, ringHit, lanesHit}
+use Rattle.start.proofs.Some.{some-none, started-none}
+use Rattle.start.proofs.Turns.{turn-more}
 use Rattle.start.proofs.start_lanes.Statement.{statement}
 use Rattle.start.proofs.start_lanes.Tie as tie
 

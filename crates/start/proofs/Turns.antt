@@ -8,8 +8,8 @@ use lib.Dec.{eqb}
 use lib.ListN.{length, set}
 use Rattle.walkgraph.specs.Map.{Box}
 use Rattle.lane.specs.Levels.{level, levelAt, startedLevel}
-use Rattle.startcells.specs.Hits.{someBelow, startedLevels, startsHere, cellsHit}
-use Rattle.startcells.proofs.Some.{some-more, started-more, started-set}
+use Rattle.start.specs.Hits.{someBelow, startedLevels, startsHere, cellsHit}
+use Rattle.start.proofs.Some.{some-more, started-more, started-set}
 
 pub cell-more : (F : ℕ → ℕ) (d : List ℤ) (v : ℤ) (each : ℕ) (walk : List ℕ) (body : Box) (lane x y place n : ℕ) → (place + n) * each + lane < length d →
     level v ≡ startedLevel (levelAt d ((place + n) * each + lane)) (startsHere walk body (x + n) y (place + n)) → levelAt d ≡ startedLevels F (cellsHit each walk body lane x y place n) →

@@ -1,4 +1,5 @@
 // Where one lane starts: in the rows of the ring box of its resource, at the cells that are inside and walkable.
+use crate::stretch;
 use cells::boxes::CellBox;
 use cells::edge;
 use ringends;
@@ -8,8 +9,7 @@ ghost use mathlib.Core.Path.{_≡_};
 ghost use lib.ListN.{length};
 ghost use Rattle.lane.specs.Levels.{levelAt};
 ghost use Rattle.cells.specs.Boxes.{boxOf};
-ghost use Rattle.startcells.specs.Hits.{startedLevels};
-ghost use Rattle.startring.specs.Hits.{rowHit, ringHit, RowRoom, RingRoom};
+ghost use Rattle.start.specs.Hits.{startedLevels, rowHit, ringHit, RowRoom, RingRoom};
 
 // Starts one lane in row y of its ring box, of the window: in the columns that are inside.
 pub fn start_row(
@@ -29,7 +29,7 @@ pub fn start_row(
     let row = y - window.top;
     let first = edge::most(ring.left + 1, rows[2 * row] as usize + window.left);
     let past = ringends::past_column(ring.right, rows[2 * row + 1] as usize + window.left);
-    startcells::start_cells(
+    stretch::start_cells(
         lanes,
         walk,
         body,

@@ -14,7 +14,7 @@ use lib.Dec.{T, eqb}
 use borrow.Author.Tests.{eq-eqb, ne-eqb}
 use Rattle.walkgraph.proofs.Tests.{by-cases, or-cases, or-left, or-right}
 use Rattle.lane.specs.Levels.{level, levelAt, startedLevel}
-use Rattle.startcells.specs.Hits.{someBelow, startedLevels}
+use Rattle.start.specs.Hits.{someBelow, startedLevels}
 
 pub some-at : (n : ℕ) (test : ℕ → Bool) → T (someBelow n test) → (k : ℕ) × (k < n) × T (test k)
 unfolding someBelow

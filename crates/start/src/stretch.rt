@@ -6,7 +6,7 @@ ghost use mathlib.Core.Path.{_≡_};
 ghost use lib.ListN.{length};
 ghost use Rattle.lane.specs.Levels.{levelAt};
 ghost use Rattle.cells.specs.Boxes.{boxOf};
-ghost use Rattle.startcells.specs.Hits.{startedLevels, cellsHit, Cells};
+ghost use Rattle.start.specs.Hits.{startedLevels, cellsHit, Cells};
 
 // Starts one lane in count cells of row y, from column x on; place is that of the first among the window's cells.
 pub fn start_cells(

@@ -1,4 +1,4 @@
--- `startcells::start_cells`: of the cells that the loop passed, those that start have started.
+-- `stretch::start_cells`: of the cells that the loop passed, those that start have started.
 use mathlib.Core.Path.{_≡_, refl, _∙_, ap}
 use mathlib.Core.Bool.{Bool, not, _&&_}
 use Prim.Native.Nat.{_+_, _*_, _-_, _≤_, _<_}
@@ -12,11 +12,11 @@ use denote.Ref.{now}
 use borrow.Author.Needs.{needs, sfits-of}
 use Rattle.lane.specs.Levels.{level, levelAt, startedLevel}
 use Rattle.cells.specs.Boxes.{boxOf}
-use Rattle.startcells.specs.Hits.{startedLevels, startsHere, cellsHit}
-use Rattle.startcells.proofs.Some.{some-none, started-none}
-use Rattle.startcells.proofs.Turns.{cell-more}
-use Rattle.startcells.proofs.start_cells.Statement.{statement}
-use Rattle.startcells.proofs.start_cells.Tie as tie
+use Rattle.start.specs.Hits.{startedLevels, startsHere, cellsHit}
+use Rattle.start.proofs.Some.{some-none, started-none}
+use Rattle.start.proofs.Turns.{cell-more}
+use Rattle.start.proofs.stretch.start_cells.Statement.{statement}
+use Rattle.start.proofs.stretch.start_cells.Tie as tie
 
 abbrev Inv-loop : tie.InvT-loop
 Inv-loop lanes₀ walk body each lane x y place count n₀ lanes n =

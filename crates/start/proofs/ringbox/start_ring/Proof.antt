@@ -1,4 +1,4 @@
--- `startring::start_ring`: the rows that the loop passed have started.
+-- `ringbox::start_ring`: the rows that the loop passed have started.
 use mathlib.Core.Path.{_≡_, refl}
 use Prim.Native.Nat.{_+_, _-_, _≤_}
 use native.Mathlib.Omega.{arith}
@@ -7,12 +7,11 @@ use denote.Ref.{now}
 use borrow.Author.Needs.{needs}
 use Rattle.lane.specs.Levels.{levelAt}
 use Rattle.cells.specs.Boxes.{boxOf}
-use Rattle.startcells.specs.Hits.{someBelow, startedLevels}
-use Rattle.startring.specs.Hits.{rowHit, ringHit}
-use Rattle.startcells.proofs.Some.{some-none, started-none}
-use Rattle.startcells.proofs.Turns.{turn-more}
-use Rattle.startring.proofs.start_ring.Statement.{statement}
-use Rattle.startring.proofs.start_ring.Tie as tie
+use Rattle.start.specs.Hits.{someBelow, startedLevels, rowHit, ringHit}
+use Rattle.start.proofs.Some.{some-none, started-none}
+use Rattle.start.proofs.Turns.{turn-more}
+use Rattle.start.proofs.ringbox.start_ring.Statement.{statement}
+use Rattle.start.proofs.ringbox.start_ring.Tie as tie
 
 abbrev Inv-loop : tie.InvT-loop
 Inv-loop lanes₀ walk rows window ring body lane first past n₀ n-end lanes n =

@@ -1,14 +1,14 @@
--- `startring::start_row`: the columns that are looked at are those of the ring box that are inside, and they lie in the buffers.
+-- `ringbox::start_row`: the columns that are looked at are those of the ring box that are inside, and they lie in the buffers.
 use Prim.Native.Nat.{ℕ, _-_, _<_}
 use native.Mathlib.Omega.{arith}
 use lib.ListN.{length}
 use denote.Ref.{now}
 use borrow.Author.Needs.{needs}
 use Rattle.cells.specs.Boxes.{boxOf}
-use Rattle.startring.specs.Hits.{firstColumn, pastColumn, rowHit}
-use Rattle.startring.proofs.Rooms.{RowNumbers, cells-room, row-numbers}
-use Rattle.startring.proofs.start_row.Statement.{statement}
-use Rattle.startring.proofs.start_row.Tie as tie
+use Rattle.start.specs.Hits.{firstColumn, pastColumn, rowHit}
+use Rattle.start.proofs.Rooms.{RowNumbers, cells-room, row-numbers}
+use Rattle.start.proofs.ringbox.start_row.Statement.{statement}
+use Rattle.start.proofs.ringbox.start_row.Tie as tie
 
 -- the row of the window, and its numbers
 abbrev row : tie.Start → ℕ
