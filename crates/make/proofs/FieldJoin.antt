@@ -19,11 +19,11 @@ use Rattle.walklaws.proofs.FieldCall.{shut, reach-is, SourceIn, lane-sound}
 use Rattle.lane.specs.Levels.{levelAt}
 use Rattle.row.specs.Visits.{Ground}
 use Rattle.sweep.specs.Sweeps.{Run, Ended, Sweeps}
-use Rattle.plainsweeps.proofs.Columns.{slot}
-use Rattle.plainsweeps.proofs.RowLevels.{Interval, Holds}
-use Rattle.plainsweeps.proofs.Turn.{GroundIs, pullOf, never}
-use Rattle.plainsweeps.proofs.SweepLevels.{Kept, Sized}
-use Rattle.plainsweeps.proofs.RunLevels as RunLevels
+use Rattle.sweep.proofs.Columns.{slot}
+use Rattle.sweep.proofs.RowLevels.{Interval, Holds}
+use Rattle.sweep.proofs.TurnLevels.{GroundIs, pullOf, never}
+use Rattle.sweep.proofs.SweepLevels.{Kept, Sized}
+use Rattle.sweep.proofs.RunLevels as RunLevels
 use Rattle.make.proofs.LanesMade.{baseOf, base-high, sized-start, lanes-are}
 use Rattle.make.proofs.Started.{Unpulled, kept-start}
 

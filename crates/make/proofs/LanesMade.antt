@@ -15,9 +15,9 @@ use Rattle.walkgraph.proofs.Signed.{subℕ-pos, subℕ-neg}
 use Rattle.walkgraph.proofs.Lanes.{LaneRules}
 use Rattle.walklaws.proofs.FieldCall.{counted, lanes-made}
 use Rattle.lane.specs.Levels.{level, levelAt}
-use Rattle.plainsweeps.proofs.Columns.{slot}
-use Rattle.plainsweeps.proofs.RowLevels.{Holds}
-use Rattle.plainsweeps.proofs.SweepLevels.{Sized}
+use Rattle.sweep.proofs.Columns.{slot}
+use Rattle.sweep.proofs.RowLevels.{Holds}
+use Rattle.sweep.proofs.SweepLevels.{Sized}
 
 -- the level of half cost 0
 abbrev pub baseOf : ℕ → ℕ

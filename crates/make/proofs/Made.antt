@@ -33,10 +33,10 @@ use Rattle.sweep.specs.Sweeps.{Run, Ended}
 use Rattle.sweep.specs.Buffers as sweep
 use Rattle.row.specs.Buffers.{groundOf}
 use Rattle.sweep.specs.Buffers.{runOf, Stops}
-use Rattle.plainsweeps.proofs.RowLevels.{Holds}
+use Rattle.sweep.proofs.RowLevels.{Holds}
 use Rattle.grounds.specs.Grounds.{unreachableLevels}
 use Rattle.versions.specs.Versions.{never}
-use Rattle.relax.specs.Relaxes.{Versioned, Relaxed}
+use Rattle.sweep.specs.Relaxes.{Versioned, Relaxed}
 use Rattle.make.proofs.LanesMade.{baseOf}
 use Rattle.make.proofs.Started.{Unpulled}
 use Rattle.make.proofs.FieldJoin.{cell-entry, row-entry, interval-of, run-stops, run-count, run-lanes}

@@ -24,7 +24,7 @@ use Rattle.row.specs.Buffers.{groundOf}
 use Rattle.sweep.specs.Buffers.{runOf, Stops}
 use Rattle.plan.specs.declared.site.Site.{Site}
 use Rattle.grounds.specs.Grounds.{unreachableLevels}
-use Rattle.relax.specs.Relaxes.{Versioned, RelaxFits, Relaxed}
+use Rattle.sweep.specs.Relaxes.{Versioned, RelaxFits, Relaxed}
 use Rattle.make.specs.Makes.{quietRows, lent, siteCall, MakeFits}
 use Rattle.make.proofs.Made as Made
 

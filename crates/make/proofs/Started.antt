@@ -17,9 +17,9 @@ use Rattle.walkgraph.proofs.Count.{starts-written, started-ind}
 use Rattle.walkgraph.proofs.RelaxedRow.{RowQuiet}
 use Rattle.walklaws.proofs.Skipping.{Feeds, fresh-start}
 use Rattle.walklaws.proofs.FieldCall.{shut, sources-in, lane-sound}
-use Rattle.plainsweeps.proofs.RowLevels.{Holds}
-use Rattle.plainsweeps.proofs.Turn.{versionAt, version-in, version-out, pulledAt, pulled-in, pulled-out, pullOf, never}
-use Rattle.plainsweeps.proofs.SweepLevels.{Kept}
+use Rattle.sweep.proofs.RowLevels.{Holds}
+use Rattle.sweep.proofs.TurnLevels.{versionAt, version-in, version-out, pulledAt, pulled-in, pulled-out, pullOf, never}
+use Rattle.sweep.proofs.SweepLevels.{Kept}
 
 -- the buffers of versions before the first sweep: `quiet` rows, and the padding above them, have pulled version 0
 pub record Unpulled (m : PaddedWindow) (quiet : ℕ) (versions downs ups : List ℕ) : Type 0 where

@@ -19,8 +19,8 @@ use Rattle.walklaws.proofs.FieldCall.{reach-is}
 use Rattle.window.specs.Fills.{entries, zeros}
 use Rattle.window.proofs.Fills.{placed-front, placed-past}
 use Rattle.start.specs.Hits.{startedLevels}
-use Rattle.plainsweeps.proofs.Columns.{slot}
-use Rattle.plainsweeps.proofs.RowLevels.{Holds}
+use Rattle.sweep.proofs.Columns.{slot}
+use Rattle.sweep.proofs.RowLevels.{Holds}
 use Rattle.versions.specs.Versions.{never, BeforeSweeps}
 use Rattle.make.proofs.LanesMade.{baseOf}
 use Rattle.make.proofs.Started.{Unpulled}

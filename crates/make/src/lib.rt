@@ -1,7 +1,7 @@
 // The field made: the ground, the start, the sweeps.
 use grounds;
 use plan::site::Site;
-use relax;
+use sweep::relax;
 use versions;
 use window::record;
 ghost use Rattle.walkgraph.specs.Buffers.{FieldMade};

@@ -5,7 +5,7 @@ use native.Mathlib.Omega.{arith}
 use lib.Seq.{length-take-le}
 use denote.Ref.{now}
 use borrow.Author.Needs.{needs}
-use Rattle.relax.specs.Relaxes.{RelaxFits}
+use Rattle.sweep.specs.Relaxes.{RelaxFits}
 use Rattle.make.specs.Makes.{quietRows, lent}
 use Rattle.grounds.proofs.Grounds.{limits, lanes-small}
 use Rattle.make.proofs.SiteMade.{relax-fits, site-made}

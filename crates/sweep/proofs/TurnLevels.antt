@@ -20,9 +20,9 @@ use Rattle.walkgraph.proofs.RelaxedRow as Relaxed
 use Rattle.walklaws.proofs.Skipping.{Feeds, Fresh, Relax, relax-fresh, relaxed-quiet, quiet-row, fresh-same, empty-quiet}
 use Rattle.ways.specs.Row.{RowDone}
 use Rattle.row.specs.Visits.{Ground, State, first, past, nextVersions, Visited, empty, skipped, done}
-use Rattle.plainsweeps.proofs.Gates.{FeedsRow}
-use Rattle.plainsweeps.proofs.RowLevels.{Interval, Along, Holds}
-use Rattle.plainsweeps.proofs.RowResult as RowResult
+use Rattle.sweep.proofs.Gates.{FeedsRow}
+use Rattle.sweep.proofs.RowLevels.{Interval, Along, Holds}
+use Rattle.sweep.proofs.RowResult as RowResult
 
 -- the ground of a run is that of a padded window
 pub record GroundIs (m : PaddedWindow) (g : Ground) : Type 0 where

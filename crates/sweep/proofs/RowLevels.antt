@@ -15,10 +15,10 @@ use Rattle.walkgraph.proofs.Sweeps.{PaddingShut, written-in}
 use Rattle.walkgraph.proofs.RelaxedRow.{relaxed-at}
 use Rattle.walkgraph.proofs.RowPasses as Passes
 use Rattle.ways.specs.Row.{walkGate, westGate, eastGate}
-use Rattle.plainsweeps.proofs.Gates.{FeedsRow, walk-gate, west-gate, east-gate}
-use Rattle.plainsweeps.proofs.LevelStep.{out-open, out-shut, back-open, back-shut}
-use Rattle.plainsweeps.proofs.Columns as Columns
-use Rattle.plainsweeps.proofs.Columns.{slot}
+use Rattle.sweep.proofs.Gates.{FeedsRow, walk-gate, west-gate, east-gate}
+use Rattle.sweep.proofs.LevelStep.{out-open, out-shut, back-open, back-shut}
+use Rattle.sweep.proofs.Columns as Columns
+use Rattle.sweep.proofs.Columns.{slot}
 
 -- the interval of row y: exactly its inside columns
 pub record Interval (m : PaddedWindow) (y a b : ℕ) : Type 0 where

@@ -14,9 +14,9 @@ use Rattle.walkgraph.proofs.Sweeps.{PaddingShut, written-in, place-place, place
 use Rattle.walkgraph.proofs.RelaxedRow.{relaxed-length}
 use Rattle.walklaws.proofs.Skipping.{Fresh, quiet-row, fresh-same, empty-quiet}
 use Rattle.row.specs.Visits.{Ground, State, rowAt, feedAt}
 use Rattle.sweep.specs.Sweeps.{Turns, none, more}
-use Rattle.plainsweeps.proofs.RowLevels.{Along, Holds}
-use Rattle.plainsweeps.proofs.Turn.{GroundIs, dirOf, versionAt, pullOf, never, midRow, mid-done, mid-left, mid-past, mid-none, Mid, turn}
+use Rattle.sweep.proofs.RowLevels.{Along, Holds}
+use Rattle.sweep.proofs.TurnLevels.{GroundIs, dirOf, versionAt, pullOf, never, midRow, mid-done, mid-left, mid-past, mid-none, Mid, turn}
 
 -- the code's turns are the places of the sweep
 row-at : (m : PaddedWindow) (b : Bool) (n : ℕ) → n < m .height → rowAt b (m .height) n ≡ place m (dirOf b) (suc n)

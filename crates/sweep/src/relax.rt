@@ -1,8 +1,8 @@
 // The sweeps of a field, with its version buffers: made before the first sweep, and cleared after the last.
-use sweep::run;
+use crate::run;
 use versions;
 ghost use Rattle.row.specs.Buffers.{groundOf};
-ghost use Rattle.relax.specs.Relaxes.{RelaxFits, Relaxed};
+ghost use Rattle.sweep.specs.Relaxes.{RelaxFits, Relaxed};
 
 // The sweeps over a window of so many lanes a cell, cells a row and rows, with padding, whose first rows, quiet in number, cannot change in the first sweep: how many.
 pub fn relax(

@@ -2,9 +2,9 @@
 use mathlib.Core.Path.{_∙_}
 use native.Mathlib.Omega.{arith}
 use denote.Ref.{now}
-use Rattle.relax.specs.Relaxes.{Versioned}
-use Rattle.relax.proofs.relax.Statement.{statement}
-use Rattle.relax.proofs.relax.Tie as tie
+use Rattle.sweep.specs.Relaxes.{Versioned}
+use Rattle.sweep.proofs.relax.relax.Statement.{statement}
+use Rattle.sweep.proofs.relax.relax.Tie as tie
 
 -- the versions before the first sweep
 versioned : (c : tie.After-unpulled) → let a = c .before .before .before .before .before .before .before .before .before .args in Versioned (a .height) (a .quiet) (now (a .versions)) (now (a .pulled-down)) (now (a .pulled-up)) (c .unpulled .last .0) (c .unpulled .last .1 .0) (c .unpulled .last .1 .1 .0)

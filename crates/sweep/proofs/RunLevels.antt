@@ -13,11 +13,11 @@ use Rattle.walkgraph.specs.Sweep.{PaddedWindow, written, valueAt, Direction, do
 use Rattle.walkgraph.proofs.Tests.{by-cases}
 use Rattle.walkgraph.proofs.Sweeps.{PaddingShut, Sound, sound-shut, sweeps-sound, quiet-last, twice, twice-is}
 use Rattle.row.specs.Visits.{Ground, State}
 use Rattle.sweep.specs.Sweeps.{Run, begins, leaves, goesDown, Turns, Sweeps, start, next, Ended}
 use Rattle.sweep.specs.Buffers.{Stops}
-use Rattle.plainsweeps.proofs.RowLevels.{Along}
-use Rattle.plainsweeps.proofs.Turn.{GroundIs, dirOf, pullOf, never}
-use Rattle.plainsweeps.proofs.SweepLevels.{Sized, Kept, sized-next, Swept, swept-whole}
+use Rattle.sweep.proofs.RowLevels.{Along}
+use Rattle.sweep.proofs.TurnLevels.{GroundIs, dirOf, pullOf, never}
+use Rattle.sweep.proofs.SweepLevels.{Sized, Kept, sized-next, Swept, swept-whole}
 
 -- the direction of a sweep, by its number
 turn-not : (b : Bool) → turn (dirOf b) ≡ dirOf (not b)

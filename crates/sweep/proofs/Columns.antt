@@ -7,7 +7,7 @@ use native.Mathlib.Nat.{suc-mul, add-mul, mul-le-mul-right}
 use native.Mathlib.Omega.{arith}
 use Rattle.lane.specs.Levels.{outLevel, backLevel}
 use Rattle.ways.specs.Row.{walkGate, westGate, eastGate, outRow, backRow}
-use Rattle.plainsweeps.proofs.Gates.{FeedsRow}
+use Rattle.sweep.proofs.Gates.{FeedsRow}
 use Rattle.ways.proofs.Lanewise as Lanewise
 
 -- cells one after the other

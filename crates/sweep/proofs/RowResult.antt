@@ -14,12 +14,12 @@ use Rattle.walkgraph.specs.Buffers.{flagByte, cellPlace}
 use Rattle.walkgraph.proofs.Tests.{by-cases}
 use Rattle.walkgraph.proofs.Sweeps.{PaddingShut}
 use Rattle.ways.specs.Row.{outRow, bothRow, Differ, RowDone, changed, both, kept}
-use Rattle.plainsweeps.proofs.Gates.{FeedsRow}
+use Rattle.sweep.proofs.Gates.{FeedsRow}
 use Rattle.ways.proofs.Lanewise as Lanewise
-use Rattle.plainsweeps.proofs.Columns as Columns
-use Rattle.plainsweeps.proofs.Columns.{slot}
-use Rattle.plainsweeps.proofs.RowLevels as RowLevels
-use Rattle.plainsweeps.proofs.RowLevels.{Interval, Along, Holds}
+use Rattle.sweep.proofs.Columns as Columns
+use Rattle.sweep.proofs.Columns.{slot}
+use Rattle.sweep.proofs.RowLevels as RowLevels
+use Rattle.sweep.proofs.RowLevels.{Interval, Along, Holds}
 
 -- true is not false
 clash {ℓ} : {A : Type ℓ} → true ≡ false → A

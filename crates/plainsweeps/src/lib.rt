@@ -1,1 +1,0 @@
-// No code: the sweeps of the code, which skip rows, are document 01's plain sweeps.
