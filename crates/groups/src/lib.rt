@@ -3,7 +3,7 @@
 use accesslists::call as lists;
 use countanswer::Answer;
 use fields::call as join;
-use roomarrays;
+use roomlimits;
 ghost use mathlib.Core.Path.{_≡_};
 ghost use Rattle.walkgraph.specs.Refusals.{accepted};
 ghost use Rattle.walkgraph.specs.FieldsPromise.{fieldsVerdict};
@@ -55,7 +55,7 @@ pub fn groups(
     requires { ⌜ GroupsFit width height (now cells) (now resources) (now answers) ⌝ }
     ensures { λ r. ⌜ Grouped width height (now (cells .entry)) (now (resources .entry)) (now (answers .entry)) (now (answers .exit)) r ⌝ }
 {
-    let mut indices = roomarrays::access_cells();
+    let mut indices = roomlimits::access_cells();
     let mut ends: [u32; 8] = [0; 8];
     let found = lists::access_lists(width, height, cells, resources, &mut indices, &mut ends);
     let Answer::Counted { count } = found else {

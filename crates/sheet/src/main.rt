@@ -1,7 +1,7 @@
 // The program: reads a room text from standard input, or one from each file that its arguments name, and writes its sheet, or the line of its refusal, to standard output.
 use libc::STDIN_FILENO;
 use libc::STDOUT_FILENO;
-use roomarrays;
+use roomlimits;
 ghost use Prim.Native.Nat.{_≤_, _<_};
 ghost use lib.ListN.{length, take};
 ghost use Rattle.sheets.specs.SheetText.{SheetOf};
@@ -24,8 +24,8 @@ fn taken(file: i32, text: &mut [u8]) -> usize
 
 // Writes the sheet of the text in a file.
 fn shown(file: i32) {
-    let mut text = roomarrays::text();
-    let mut out = roomarrays::sheet();
+    let mut text = roomlimits::text();
+    let mut out = roomlimits::sheet();
     let count = taken(file, &mut text);
     let end = answer(&text[..count], &mut out);
     io::write_all(STDOUT_FILENO, &out[..end]);

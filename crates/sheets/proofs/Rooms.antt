@@ -15,7 +15,8 @@ use borrow.Author.Tests.{leb-true}
 use Rattle.walkgraph.specs.Painting.{rectangle}
 use Rattle.cells.proofs.Bools.{both}
 use Rattle.roomtext.specs.Readings.{RoomTaken}
-use Rattle.textverdict.specs.Verdicts.{inLimits, Verdict, accepted, refused, JudgesText}
+use Rattle.roomlimits.specs.Limits.{inLimits}
+use Rattle.textverdict.specs.Verdicts.{Verdict, accepted, refused, JudgesText}
 use Rattle.textverdict.specs.Verdicts as verdicts
 use Rattle.roomtext.proofs.Buffers.{cells-part, blockers-part, resources-part, targets-left, targets-top, targets-right, targets-bottom}
 use Rattle.page.specs.Lines.{refusalLine}

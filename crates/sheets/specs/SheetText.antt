@@ -13,7 +13,8 @@ use Rattle.plan.specs.Plans.{inputOf}
 use Rattle.roomlines.specs.Fours.{numbersOf}
 use Rattle.roomrows.specs.Rows.{cellsOf}
 use Rattle.roomtext.specs.Room.{Room, roomText, Formed, Breaks}
-use Rattle.textverdict.specs.Verdicts.{inLimits, Verdict, accepted, refused}
+use Rattle.roomlimits.specs.Limits.{inLimits}
+use Rattle.textverdict.specs.Verdicts.{Verdict, accepted, refused}
 use Rattle.page.specs.Lines.{refusalLine}
 use Rattle.sheettext.specs.Sheets.{PutsWithin}
 use Rattle.sheets.specs.Drawings.{Drawing, PutsDrawing}

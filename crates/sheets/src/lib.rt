@@ -4,7 +4,7 @@ mod drawing;
 mod roomsheet;
 
 use delivery;
-use roomarrays;
+use roomlimits;
 use textverdict;
 ghost use Rattle.sheets.specs.Promise.{SheetPromise};
 
@@ -12,7 +12,7 @@ ghost use Rattle.sheets.specs.Promise.{SheetPromise};
 pub fn sheet(text: &[u8], out: &mut [u8]) -> usize
     ensures { λ r. ⌜ SheetPromise (now (text .entry)) (now (out .entry)) (now (out .exit)) r ⌝ }
 {
-    let mut page = roomarrays::sheet();
+    let mut page = roomlimits::sheet();
     let mut cells: [u8; 8192] = [0; 8192];
     let mut numbers: [i32; 8192] = [0; 8192];
     let judged = textverdict::read(text, &mut cells, &mut numbers);

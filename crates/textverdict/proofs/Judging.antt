@@ -4,34 +4,15 @@ use mathlib.Core.Bool.{Bool, true, false}
 use mathlib.Core.List.{List}
 use Prim.Native.Nat.{ℕ, _≤_, _<_}
 use native.Mathlib.Omega.{arith}
-use borrow.Author.Tests.{le-leb, lt-leb}
-use lib.Dec.{leb}
 use lib.IntN.{ℤ}
 use lib.ListN.{length, length-append}
 use Rattle.decimal.proofs.Digits.{clash}
 use Rattle.textlines.specs.Lines.{textOf}
 use Rattle.roomlines.proofs.Parts.{text-long}
 use Rattle.roomtext.specs.Readings.{RoomFound, room, broken-at, ReadsRoom, reads-room, breaks-at, RoomFits}
-use Rattle.textverdict.specs.Verdicts.{inLimits, Verdict, accepted, refused, JudgesText, too-many-bytes, breaks-form, too-large, accepts, TextFits}
+use Rattle.roomlimits.specs.Limits.{inLimits}
+use Rattle.textverdict.specs.Verdicts.{Verdict, accepted, refused, JudgesText, too-many-bytes, breaks-form, too-large, accepts, TextFits}
 use Rattle.roomtext.proofs.One.{breaks-one, taken-one}
-
--- ---- the limits
-module _ (width height blockers resources : ℕ) where
-  pub many-rows : 60 < height → false ≡ inLimits width height blockers resources
-  unfolding inLimits
-  many-rows h = rw (lt-leb height 60 h)
-
-  pub many-columns : height ≤ 60 → 60 < width → false ≡ inLimits width height blockers resources
-  unfolding inLimits
-  many-columns h w = rw (le-leb height 60 h, lt-leb width 60 w)
-
-  pub many-blockers : height ≤ 60 → width ≤ 60 → 64 < blockers → false ≡ inLimits width height blockers resources
-  unfolding inLimits
-  many-blockers h w b = rw (le-leb height 60 h, le-leb width 60 w, lt-leb blockers 64 b)
-
-  pub resources-left : height ≤ 60 → width ≤ 60 → blockers ≤ 64 → leb resources 8 ≡ inLimits width height blockers resources
-  unfolding inLimits
-  resources-left h w b = rw (le-leb height 60 h, le-leb width 60 w, le-leb blockers 64 b)
 
 -- ---- the verdict
 pub room-fits : {text cells : List ℕ} {numbers : List ℤ} → length text ≤ 8192 → TextFits cells numbers → RoomFits text cells numbers

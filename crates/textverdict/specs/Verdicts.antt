@@ -1,17 +1,13 @@
 -- Document 01, rows 9 and 10 of the table of refusals: what the program makes of a text before the field call judges it.
 use mathlib.Core.Path.{_≡_}
-use mathlib.Core.Bool.{Bool, true, false, _&&_}
+use mathlib.Core.Bool.{true, false}
 use mathlib.Core.List.{List}
 use Prim.Native.Nat.{ℕ, _≤_, _<_}
-use lib.Dec.{leb}
 use lib.IntN.{ℤ}
 use lib.ListN.{length}
+use Rattle.roomlimits.specs.Limits.{inLimits}
 use Rattle.roomtext.specs.Room.{Breaks}
 use Rattle.roomtext.specs.Readings.{RoomTaken}
-
--- "over .. 60 rows, 60 columns, 64 blockers or 8 resources"
-unfoldable pub inLimits : (width height blockers resources : ℕ) → Bool
-inLimits width height blockers resources = leb height 60 && (leb width 60 && (leb blockers 64 && leb resources 8))
 
 -- a room that is accepted, or a refusal's number and place
 pub data Verdict : Type 0 where

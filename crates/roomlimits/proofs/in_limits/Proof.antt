@@ -1,8 +1,8 @@
--- `textverdict::in_limits`: each limit in its turn.
+-- `roomlimits::in_limits`: each limit in its turn.
 use native.Mathlib.Omega.{arith}
-use Rattle.textverdict.proofs.Judging.{many-rows, many-columns, many-blockers, resources-left}
-use Rattle.textverdict.proofs.in_limits.Statement.{statement}
-use Rattle.textverdict.proofs.in_limits.Tie as tie
+use Rattle.roomlimits.proofs.Limits.{many-rows, many-columns, many-blockers, resources-left}
+use Rattle.roomlimits.proofs.in_limits.Statement.{statement}
+use Rattle.roomlimits.proofs.in_limits.Tie as tie
 
 returns : tie.Need-returns
 returns c = many-rows (c .before .args .width) (c .before .args .height) (c .before .args .blockers) (c .before .args .resources) (omega (arith, c .if1 .taken))

@@ -1,7 +1,24 @@
-// Arrays of zeros with room for any room that the program takes: 60 rows of 60 columns with 8 resources, its text and its sheet.
+// The limits of a room that the program takes, and arrays of zeros with room for any room in them, its text and its sheet.
 ghost use mathlib.Core.Path.{_≡_};
 ghost use Prim.Native.Nat.{_+_, _*_};
 ghost use lib.ListN.{replicate};
+ghost use Rattle.roomlimits.specs.Limits.{inLimits};
+
+// A room is not larger than the program takes.
+pub fn in_limits(width: usize, height: usize, blockers: usize, resources: usize) -> bool
+    ensures { λ r. ⌜ r ≡ inLimits width height blockers resources ⌝ }
+{
+    if height > 60 {
+        return false;
+    }
+    if width > 60 {
+        return false;
+    }
+    if blockers > 64 {
+        return false;
+    }
+    resources <= 8
+}
 
 // One byte more than the 8,192 that a room text has at most.
 pub fn text() -> [u8; 8193]

@@ -1,0 +1,2 @@
+-- The limits of a room, in the order in which they are tested.
+pub mod Limits

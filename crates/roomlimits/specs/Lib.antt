@@ -1,0 +1,2 @@
+-- The limits of a room that the program takes.
+pub mod Limits
