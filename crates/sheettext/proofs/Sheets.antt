@@ -1,32 +1,24 @@
 -- The lines of a sheet, one after another, and how long they are at most.
 use mathlib.Core.List.{List}
-use Prim.Native.Nat.{ℕ, _+_, _*_, _-_, _≤_}
-use native.Mathlib.Nat.{mul-le-mul}
+use Prim.Native.Nat.{ℕ, _≤_}
 use native.Mathlib.Omega.{arith}
 use lib.IntN.{ℤ}
 use lib.ListN.{length}
 use Rattle.walkgraph.specs.Map.{Box}
 use Rattle.walkgraph.specs.Reading.{WindowRecord}
-use Rattle.cells.specs.Boxes.{InMap}
 use Rattle.page.specs.Puts.{Puts, Room}
 use Rattle.page.proofs.Putting.{puts-length}
 use Rattle.outerlines.specs.Outer.{headLines, groupLines, GroupsRoom, PutsWithin}
 use Rattle.outerlines.proofs.Outer.{head-most, within-more, within-most, within-length}
 use Rattle.targetlines.specs.Targets.{targetLines, TargetRoom}
 use Rattle.targetlines.proofs.Targets.{targets-most}
-use Rattle.sheettext.specs.Sheets.{targetCells, sheetText, SheetRoom}
-
--- at most 3,600 cells
-pub cells-few : (targets : Box) → InMap 60 60 targets → (targets .right + 1 - targets .left) * (targets .bottom + 1 - targets .top) ≤ 3600
-cells-few targets box =
-    let p : targets .right + 1 - targets .left ≤ 60 = omega (arith, box .wide) in
-    let q : targets .bottom + 1 - targets .top ≤ 60 = omega (arith, box .tall) in
-    mul-le-mul p q
+use Rattle.targetcount.specs.Targets.{targetCells}
+use Rattle.targetcount.proofs.Few.{cells-few}
+use Rattle.sheettext.specs.Sheets.{sheetText, SheetRoom}
 
 -- ---- the whole sheet
 module _ {window : WindowRecord} {sweeps : ℕ} {targets : Box} {resources groups : ℕ} {fields page : List ℕ} (s : SheetRoom window sweeps targets resources groups fields page) where
   head-short : length (headLines window sweeps (targetCells targets)) ≤ 45
-  unfolding targetCells
   head-short = head-most window sweeps (targetCells targets) (s .left) (s .top) (s .width) (s .height) (s .swept) (omega (arith, cells-few targets (s .box)))
 
   pub sheet-head : Room (headLines window sweeps (targetCells targets)) 0 page

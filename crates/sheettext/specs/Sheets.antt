@@ -1,6 +1,6 @@
 -- Document 01, "Room text and the program", Output: the whole sheet as text, and when a page has room for it.
 use mathlib.Core.List.{List, _++_}
-use Prim.Native.Nat.{ℕ, _+_, _*_, _-_, _≤_, _<_}
+use Prim.Native.Nat.{ℕ, _≤_, _<_}
 use lib.IntN.{ℤ}
 use lib.ListN.{length}
 use Rattle.walkgraph.specs.Map.{Box}
@@ -8,11 +8,8 @@ use Rattle.walkgraph.specs.Reading.{WindowRecord}
 use Rattle.cells.specs.Boxes.{InMap}
 use Rattle.outerlines.specs.Outer.{headLines, groupLines}
 use Rattle.targetlines.specs.Targets.{targetLines}
+use Rattle.targetcount.specs.Targets.{targetCells}
 pub use Rattle.outerlines.specs.Outer.{PutsWithin}
-
--- "number of target cells"
-unfoldable pub targetCells : Box → ℕ
-targetCells targets = (targets .right + 1 - targets .left) * (targets .bottom + 1 - targets .top)
 
 -- the whole sheet
 unfoldable pub sheetText : WindowRecord → (sweeps : ℕ) → Box → (lanes : List ℤ) → (resources groups : ℕ) → (fields : List ℕ) → List ℕ

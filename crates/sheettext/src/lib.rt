@@ -1,21 +1,13 @@
 // The whole sheet, put on a page: the lines before those of the target cells, these, and the lines after them.
 use cells::boxes::CellBox;
 use outerlines;
+use targetcount;
 use targetlines;
 use window::record::Window;
-ghost use mathlib.Core.Path.{_≡_};
-ghost use Rattle.cells.specs.Boxes.{boxOf, InMap};
+ghost use Rattle.cells.specs.Boxes.{boxOf};
 ghost use Rattle.window.specs.Windows.{asRecord};
 ghost use Rattle.outerlines.specs.Outer.{PutsWithin};
-ghost use Rattle.sheettext.specs.Sheets.{targetCells, sheetText, SheetRoom};
-
-// How many target cells there are.
-fn target_cells(targets: CellBox) -> usize
-    requires { ⌜ InMap 60 60 (boxOf targets) ⌝ }
-    ensures { λ r. ⌜ r ≡ targetCells (boxOf targets) ⌝ }
-{
-    (targets.right + 1 - targets.left) * (targets.bottom + 1 - targets.top)
-}
+ghost use Rattle.sheettext.specs.Sheets.{sheetText, SheetRoom};
 
 // Puts the whole sheet from the page's start on. It answers the place after it.
 pub fn sheet(
@@ -32,7 +24,7 @@ pub fn sheet(
     ensures { λ r. ⌜ PutsWithin 200000 (sheetText (asRecord window) sweeps (boxOf targets) (now (lanes .entry)) resources fields (now (answers .entry)))
         (now (page .entry)) 0 (now (page .exit)) r ⌝ }
 {
-    let cells = target_cells(targets);
+    let cells = targetcount::target_cells(targets);
     let first = outerlines::head(page, 0, window, sweeps, cells);
     let second = targetlines::rows(page, first, window, lanes, resources, targets);
     outerlines::groups(page, second, fields, answers, resources)

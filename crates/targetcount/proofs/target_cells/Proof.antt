@@ -1,12 +1,12 @@
--- `sheettext::target_cells`: the columns times the rows, at most 3,600.
+-- `targetcount::target_cells`: the columns times the rows, at most 3,600.
 use mathlib.Core.Path.{refl}
 use native.Mathlib.Omega.{arith}
 use borrow.Author.Needs.{needs}
 use Rattle.cells.specs.Boxes.{boxOf}
-use Rattle.sheettext.specs.Sheets.{targetCells}
-use Rattle.sheettext.proofs.Sheets.{cells-few}
-use Rattle.sheettext.proofs.target_cells.Statement.{statement}
-use Rattle.sheettext.proofs.target_cells.Tie as tie
+use Rattle.targetcount.specs.Targets.{targetCells}
+use Rattle.targetcount.proofs.Few.{cells-few}
+use Rattle.targetcount.proofs.target_cells.Statement.{statement}
+use Rattle.targetcount.proofs.target_cells.Tie as tie
 
 add-result : tie.Need-add-result
 add-result c = search needs
@@ -21,6 +21,7 @@ sub-result-2 : tie.Need-sub-result-2
 sub-result-2 c = search needs
 
 mul-result : tie.Need-mul-result
+unfolding targetCells
 mul-result c = omega (arith, cells-few (boxOf (c .before .before .before .before .args .targets)) (c .before .before .before .before .pre))
 
 returns : tie.Need-returns

@@ -1,0 +1,2 @@
+-- The laws that the proofs of this crate and of those above it cite.
+pub mod Few

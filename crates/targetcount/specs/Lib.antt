@@ -1,0 +1,2 @@
+-- The number of target cells.
+pub mod Targets
