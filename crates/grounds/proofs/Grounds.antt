@@ -20,7 +20,7 @@ use Rattle.window.specs.declared.record.Window.{Window}
 use Rattle.window.specs.Windows.{windowOver, OnMap}
 use Rattle.window.specs.Fills.{entries, zeros, windowRows, AreBits, cleared}
 use Rattle.walkbytes.specs.Copies.{Copies, mapRows}
-use Rattle.painting.specs.Painting.{Paints, blockersPainted}
+use Rattle.walkbytes.specs.Painting.{Paints, blockersPainted}
 use Rattle.flags.specs.Flags.{FlagRows, flagRows, flagsFilled}
 use Rattle.walkbytes.specs.Filled.{walkFilled}
 use Rattle.intervals.specs.Intervals.{RowEnds, rowsFilled}

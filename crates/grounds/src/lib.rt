@@ -1,11 +1,11 @@
 // The ground of a field: its walk bytes, flags and row intervals, and its lanes before the first sweep.
 use intervals::rows;
-use painting;
 use paintrows;
 use plan::site::Site;
 use start;
 use unreachable;
-use walkbytes;
+use walkbytes::maprows;
+use walkbytes::painting;
 use window::record;
 ghost use mathlib.Core.Path.{_≡_};
 ghost use Prim.Native.Nat.{_/_};
@@ -28,7 +28,7 @@ pub fn ground(site: Site, cells: &[u8], blockers: &[i32], walk: &mut [u8], flags
     let window = site.window;
     let count = record::padded(window);
     paintrows::paint_row(walk, 0, count);
-    walkbytes::copy_rows(cells, walk, window, site.width);
+    maprows::copy_rows(cells, walk, window, site.width);
     painting::paint(walk, blockers, window, site.width, site.height);
     paintrows::paint_row(flags, 0, count);
     flags::flag_rows(walk, flags, window);

@@ -9,7 +9,7 @@ use Rattle.window.specs.declared.record.Window.{Window}
 use Rattle.window.specs.Windows.{windowOver, OnMap}
 use Rattle.window.proofs.Fits.{sizes}
 use Rattle.walkbytes.specs.Copies.{Copies}
-use Rattle.painting.specs.Painting.{Paints}
+use Rattle.walkbytes.specs.Painting.{Paints}
 
 module _ (width height : ℕ) (s t : CellBox) (lanes : ℕ) (on : OnMap width height (boxOf s) (boxOf t)) where
   abbrev w : Window

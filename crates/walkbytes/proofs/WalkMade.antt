@@ -26,7 +26,7 @@ use Rattle.walkbytes.specs.Copies.{mapRows}
 use Rattle.walkbytes.specs.Filled.{walkFilled}
 use Rattle.window.proofs.Edges.{window-in-map}
 use Rattle.window.proofs.Places.{window-in, window-out, window-past, cleared-at, cleared-past}
-use Rattle.painting.proofs.Painted.{painted-in, painted-out, painted-past}
+use Rattle.walkbytes.proofs.Painted.{painted-in, painted-out, painted-past}
 
 -- a byte that is 0 or 1, as a bit
 byte-bit : (v : ℕ) → v ≤ 1 → bit (eqb v 1) ≡ v

@@ -6,7 +6,7 @@ use lib.ListN.{length}
 use Rattle.window.specs.declared.record.Window.{Window}
 use Rattle.window.specs.Fills.{cleared, windowRows}
 use Rattle.walkbytes.specs.Copies.{mapRows}
-use Rattle.painting.specs.Painting.{blockersPainted}
+use Rattle.walkbytes.specs.Painting.{blockersPainted}
 
 -- the walk bytes: cleared, copied from the map, and painted
 unfoldable pub walkFilled : Window → ℕ → ℕ → List ℕ → List ℤ → (ℕ → ℕ) → ℕ → ℕ

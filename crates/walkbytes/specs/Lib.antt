@@ -1,3 +1,4 @@
--- What the contracts of this crate speak of: the map's cells in the window, and with their painting.
+-- What the contracts of this crate speak of: the map's cells in the window, the blockers painted, and one after the other.
 pub mod Copies
+pub mod Painting
 pub mod Filled

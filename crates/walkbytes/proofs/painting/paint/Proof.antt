@@ -5,10 +5,10 @@ use native.Mathlib.Omega.{arith}
 use lib.ListN.{length}
 use denote.Ref.{now}
 use Rattle.window.specs.Fills.{entries}
-use Rattle.painting.specs.Painting.{blockersPainted}
-use Rattle.painting.proofs.Boxed.{blockers-none, blockers-more}
-use Rattle.painting.proofs.paint.Statement.{statement}
-use Rattle.painting.proofs.paint.Tie as tie
+use Rattle.walkbytes.specs.Painting.{blockersPainted}
+use Rattle.walkbytes.proofs.Boxed.{blockers-none, blockers-more}
+use Rattle.walkbytes.proofs.painting.paint.Statement.{statement}
+use Rattle.walkbytes.proofs.painting.paint.Tie as tie
 
 abbrev Inv-loop : tie.InvT-loop
 Inv-loop walk₀ blockers window width height k₀ k-end walk k =

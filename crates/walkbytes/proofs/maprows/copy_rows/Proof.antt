@@ -1,4 +1,4 @@
--- `walkbytes::copy_rows`: the rows that the loop passed are the map's; where the next one starts, in the map and in the walk bytes.
+-- `maprows::copy_rows`: the rows that the loop passed are the map's; where the next one starts, in the map and in the walk bytes.
 use mathlib.Core.Path.{_≡_, refl}
 use Prim.Native.Nat.{_+_, _*_, _-_, _≤_}
 use native.Mathlib.Omega.{arith}
@@ -7,8 +7,8 @@ use Rattle.window.specs.Fills.{entries, rowsPlaced, windowRows}
 use Rattle.walkbytes.specs.Copies.{mapRows}
 use Rattle.window.proofs.Fills.{rows-none, rows-more, next-row}
 use Rattle.walkbytes.proofs.Copying.{start-low, copy-row}
-use Rattle.walkbytes.proofs.copy_rows.Statement.{statement}
-use Rattle.walkbytes.proofs.copy_rows.Tie as tie
+use Rattle.walkbytes.proofs.maprows.copy_rows.Statement.{statement}
+use Rattle.walkbytes.proofs.maprows.copy_rows.Tie as tie
 
 abbrev Inv-loop : tie.InvT-loop
 Inv-loop cells walk₀ width stride count from₀ to₀ y₀ y-end walk from to y =

@@ -6,9 +6,9 @@ use mir.Syntax.{w32}
 use mir.ValLaws.{toZ-ofZ}
 use denote.Ref.{now}
 use borrow.Author.Needs.{needs, sfits-of}
-use Rattle.painting.proofs.Boxed.{clamped, blocker-done}
-use Rattle.painting.proofs.paint_blocker.Statement.{statement}
-use Rattle.painting.proofs.paint_blocker.Tie as tie
+use Rattle.walkbytes.proofs.Boxed.{clamped, blocker-done}
+use Rattle.walkbytes.proofs.painting.paint_blocker.Statement.{statement}
+use Rattle.walkbytes.proofs.painting.paint_blocker.Tie as tie
 
 mul-at : tie.Need-mul-at
 mul-at c = search needs

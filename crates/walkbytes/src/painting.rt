@@ -7,7 +7,7 @@ ghost use mathlib.Core.Path.{_≡_};
 ghost use Prim.Native.Nat.{_+_, _*_, _/_, _≤_};
 ghost use lib.ListN.{length};
 ghost use Rattle.window.specs.Fills.{entries};
-ghost use Rattle.painting.specs.Painting.{Paints, Pixels, boxPainted, blockerPainted, blockersPainted};
+ghost use Rattle.walkbytes.specs.Painting.{Paints, Pixels, boxPainted, blockerPainted, blockersPainted};
 
 // Paints the cells of a rectangle of clamped pixels that lie in the window.
 pub fn paint_box(

@@ -1,4 +1,4 @@
--- `walkbytes::copy_row`: the bytes that the loop passed are the map's, and the others stay.
+-- `maprows::copy_row`: the bytes that the loop passed are the map's, and the others stay.
 use mathlib.Core.Path.{_≡_, refl}
 use Prim.Native.Nat.{_+_, _-_, _≤_}
 use native.Mathlib.Omega.{arith}
@@ -6,8 +6,8 @@ use lib.ListN.{length, length-set}
 use Rattle.walkgraph.specs.Lists.{placed}
 use Rattle.window.specs.Fills.{entries}
 use Rattle.window.proofs.Fills.{placed-none, placed-store}
-use Rattle.walkbytes.proofs.copy_row.Statement.{statement}
-use Rattle.walkbytes.proofs.copy_row.Tie as tie
+use Rattle.walkbytes.proofs.maprows.copy_row.Statement.{statement}
+use Rattle.walkbytes.proofs.maprows.copy_row.Tie as tie
 
 abbrev Inv-loop : tie.InvT-loop
 Inv-loop cells walk₀ from to count x₀ walk x =

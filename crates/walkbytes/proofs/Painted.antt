@@ -12,8 +12,8 @@ use Rattle.walkgraph.specs.Painting.{rectangle, spans, covers, covered}
 use Rattle.walkgraph.proofs.Tests.{by-cases, decT, and-left, and-right, and-pair, cond-true, cond-false}
 use Rattle.window.specs.declared.record.Window.{Window}
 use Rattle.window.specs.Fills.{zeros, rowsPlaced}
-use Rattle.painting.specs.Painting.{fromCell, pastCell, boxPainted, blockerPainted, blockersPainted}
-use Rattle.painting.proofs.Boxed.{box-thin, box-flat}
+use Rattle.walkbytes.specs.Painting.{fromCell, pastCell, boxPainted, blockerPainted, blockersPainted}
+use Rattle.walkbytes.proofs.Boxed.{box-thin, box-flat}
 use Rattle.window.proofs.Places.{cell-in, cell-out, cell-past}
 
 -- the cell (x, y) of the map is covered by clamped pixels, as a test and as facts

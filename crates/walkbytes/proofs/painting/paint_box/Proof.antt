@@ -1,9 +1,9 @@
 -- `painting::paint_box`: nothing is painted of a rectangle without width or height; else the rows of its cells in the window, which lie in the buffer.
 use native.Mathlib.Omega.{arith}
-use Rattle.painting.proofs.Boxed.{BoxNumbers, box-numbers, within, box-fits, box-thin, box-flat, box-done}
+use Rattle.walkbytes.proofs.Boxed.{BoxNumbers, box-numbers, within, box-fits, box-thin, box-flat, box-done}
 use borrow.Author.Needs.{needs}
-use Rattle.painting.proofs.paint_box.Statement.{statement}
-use Rattle.painting.proofs.paint_box.Tie as tie
+use Rattle.walkbytes.proofs.painting.paint_box.Statement.{statement}
+use Rattle.walkbytes.proofs.painting.paint_box.Tie as tie
 
 -- the numbers of the first painted cell
 numbers : (c : tie.After-most2) → BoxNumbers (c .before .before .before .before .before .before .before .before .args .window) (c .before .before .most .result) (c .most2 .result) (c .before .before .before .before .stride .result)

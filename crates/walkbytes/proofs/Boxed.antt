@@ -15,7 +15,7 @@ use Rattle.walkgraph.proofs.Places.{flat-lt}
 use Rattle.window.specs.declared.record.Window.{Window}
 use Rattle.window.specs.Fills.{zeros, rowsPlaced}
 use Rattle.paintrows.specs.PaintRows.{PaintRows}
-use Rattle.painting.specs.Painting.{Paints, Pixels, fromCell, pastCell, boxPainted, blockerPainted, blockersPainted}
+use Rattle.walkbytes.specs.Painting.{Paints, Pixels, fromCell, pastCell, boxPainted, blockerPainted, blockersPainted}
 
 clamp-most : (limit : ℕ) (z : ℤ) → clamp limit z ≤ limit
 unfolding clamp

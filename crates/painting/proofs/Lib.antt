@@ -1,3 +1,0 @@
--- The laws of painting.
-pub mod Boxed
-pub mod Painted
