@@ -15,7 +15,7 @@ use Rattle.costtext.specs.Costs.{costBytes, costText, costAt}
 use Rattle.celllines.specs.Costs.{costTexts, cellLine}
 use Rattle.targetlines.specs.Targets.{lineAt, rowLines, targetLines}
 use Rattle.outerlines.specs.Outer.{headLines, fieldLines, groupLines}
-use Rattle.targetcount.specs.Targets.{targetCells}
+use Rattle.targetbox.specs.Targets.{targetCells}
 use Rattle.sheettext.specs.Sheets.{sheetText}
 
 -- a cell's eight lanes, of which the first is a resource's

@@ -12,8 +12,8 @@ use Rattle.outerlines.specs.Outer.{headLines, groupLines, GroupsRoom, PutsWithi
 use Rattle.outerlines.proofs.Outer.{head-most, within-more, within-most, within-length}
 use Rattle.targetlines.specs.Targets.{targetLines, TargetRoom}
 use Rattle.targetlines.proofs.Targets.{targets-most}
-use Rattle.targetcount.specs.Targets.{targetCells}
-use Rattle.targetcount.proofs.Few.{cells-few}
+use Rattle.targetbox.specs.Targets.{targetCells}
+use Rattle.targetbox.proofs.Few.{cells-few}
 use Rattle.sheettext.specs.Sheets.{sheetText, SheetRoom}
 
 -- ---- the whole sheet

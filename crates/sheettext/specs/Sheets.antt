@@ -8,7 +8,7 @@ use Rattle.walkgraph.specs.Reading.{WindowRecord}
 use Rattle.cells.specs.Boxes.{InMap}
 use Rattle.outerlines.specs.Outer.{headLines, groupLines}
 use Rattle.targetlines.specs.Targets.{targetLines}
-use Rattle.targetcount.specs.Targets.{targetCells}
+use Rattle.targetbox.specs.Targets.{targetCells}
 pub use Rattle.outerlines.specs.Outer.{PutsWithin}
 
 -- the whole sheet

@@ -1,7 +1,7 @@
 // The whole sheet, put on a page: the lines before those of the target cells, these, and the lines after them.
 use cells::boxes::CellBox;
 use outerlines;
-use targetcount;
+use targetbox;
 use targetlines;
 use window::record::Window;
 ghost use Rattle.cells.specs.Boxes.{boxOf};
@@ -24,7 +24,7 @@ pub fn sheet(
     ensures { λ r. ⌜ PutsWithin 200000 (sheetText (asRecord window) sweeps (boxOf targets) (now (lanes .entry)) resources fields (now (answers .entry)))
         (now (page .entry)) 0 (now (page .exit)) r ⌝ }
 {
-    let cells = targetcount::target_cells(targets);
+    let cells = targetbox::target_cells(targets);
     let first = outerlines::head(page, 0, window, sweeps, cells);
     let second = targetlines::rows(page, first, window, lanes, resources, targets);
     outerlines::groups(page, second, fields, answers, resources)

@@ -1,2 +1,3 @@
--- What the contract of this crate speaks of: the cells of a target box.
+-- What the contracts of this crate speak of: the cells of a target box, and how many there are.
 pub mod TargetBox
+pub mod Targets

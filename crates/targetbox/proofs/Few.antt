@@ -4,7 +4,7 @@ use native.Mathlib.Nat.{mul-le-mul}
 use native.Mathlib.Omega.{arith}
 use Rattle.walkgraph.specs.Map.{Box}
 use Rattle.cells.specs.Boxes.{InMap}
-use Rattle.targetcount.specs.Targets.{targetCells}
+use Rattle.targetbox.specs.Targets.{targetCells}
 
 -- at most 3,600 cells
 pub cells-few : (targets : Box) → InMap 60 60 targets → targetCells targets ≤ 3600

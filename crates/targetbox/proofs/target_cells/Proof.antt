@@ -1,12 +1,12 @@
--- `targetcount::target_cells`: the columns times the rows, at most 3,600.
+-- `targetbox::target_cells`: the columns times the rows, at most 3,600.
 use mathlib.Core.Path.{refl}
 use native.Mathlib.Omega.{arith}
 use borrow.Author.Needs.{needs}
 use Rattle.cells.specs.Boxes.{boxOf}
-use Rattle.targetcount.specs.Targets.{targetCells}
-use Rattle.targetcount.proofs.Few.{cells-few}
-use Rattle.targetcount.proofs.target_cells.Statement.{statement}
-use Rattle.targetcount.proofs.target_cells.Tie as tie
+use Rattle.targetbox.specs.Targets.{targetCells}
+use Rattle.targetbox.proofs.Few.{cells-few}
+use Rattle.targetbox.proofs.target_cells.Statement.{statement}
+use Rattle.targetbox.proofs.target_cells.Tie as tie
 
 add-result : tie.Need-add-result
 add-result c = search needs

@@ -1,2 +1,0 @@
--- The number of target cells.
-pub mod Targets
