@@ -2,17 +2,30 @@
 use mathlib.Core.List.{List}
 use Prim.Native.Nat.{ℕ, _≤_}
 use native.Mathlib.Omega.{arith}
+use lib.IntN.{ℤ}
 use lib.ListN.{length}
+use mir.Syntax.{w32}
+use mir.Val.{SFits, toZ, ofZ}
+use mir.ValLaws.{toZ-ofZ}
 use Rattle.walkgraph.specs.Buffers.{Lent}
 use Rattle.walkgraph.specs.Refusals.{FieldInput}
 use Rattle.walkgraph.specs.Promise.{FieldAnswer, FieldPromise, refuses, nothing, makes}
 use Rattle.cells.specs.Boxes.{reach}
+use Rattle.rings.specs.Rings.{corners}
+use Rattle.plan.specs.Plans.{inputOf}
 use Rattle.page.specs.Puts.{Puts, Room}
 use Rattle.page.specs.Lines.{refusalLine}
 use Rattle.page.proofs.Lengths.{refusal-most}
 use Rattle.sheettext.specs.Sheets.{PutsWithin}
 use Rattle.sheets.specs.Shown.{PutsAnswer, puts-line, puts-shown}
 use Rattle.sheets.specs.Drawings.{zeroField, refused-line, drawn, PutsDrawing}
+
+-- ---- what the field call promises of a target box as it was given, not as it is read from its bits
+module _ (w h : ℕ) (cells : List ℕ) (blockers resources : List ℤ) (left top right bottom : ℤ) (before after : Lent) (answer : FieldAnswer) where
+  pub as-given : SFits w32 left → SFits w32 top → SFits w32 right → SFits w32 bottom →
+      FieldPromise reach (inputOf w h cells 8 blockers resources (corners (toZ w32 (ofZ w32 left)) (toZ w32 (ofZ w32 top)) (toZ w32 (ofZ w32 right)) (toZ w32 (ofZ w32 bottom)))) before after answer →
+      FieldPromise reach (inputOf w h cells 8 blockers resources (corners left top right bottom)) before after answer
+  as-given a b c d p = rw (toZ-ofZ w32 left a, toZ-ofZ w32 top b, toZ-ofZ w32 right c, toZ-ofZ w32 bottom d) at p
 
 -- ---- what the field call answers
 module _ (i : FieldInput) {page done : List ℕ} {end : ℕ} where

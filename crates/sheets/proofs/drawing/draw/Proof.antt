@@ -4,8 +4,6 @@ use Prim.Native.Nat.{ℕ}
 use denote.Ref.{now}
 use lib.IntN.{ℤ, pos}
 use lib.ListN.{length-replicate}
-use mir.Syntax.{w32}
-use mir.ValLaws.{toZ-ofZ}
 use borrow.Author.Needs.{needs, sfits-of}
 use Rattle.walkgraph.specs.Buffers.{Lent}
 use Rattle.walkgraph.specs.Refusals.{FieldInput}
@@ -17,7 +15,7 @@ use Rattle.make.specs.Makes.{lent}
 use Rattle.fieldanswer.specs.Answers.{answerOf}
 use Rattle.sheets.specs.Drawings.{zeroField}
 use Rattle.sheets.proofs.Accepted.{can-answer}
-use Rattle.sheets.proofs.RoomDrawn.{answer-put}
+use Rattle.sheets.proofs.RoomDrawn.{as-given, answer-put}
 use Rattle.sheets.proofs.drawing.draw.Statement.{statement}
 use Rattle.sheets.proofs.drawing.draw.Tie as tie
 
@@ -28,17 +26,14 @@ input b = let a = b .args in inputOf (a .width) (a .height) (now (a .cells)) 8 (
 abbrev after : tie.After-field → Lent
 after c = let l = c .field .last .1 .1 .1 .1 .1 .1 .1 .1 .1 .1 in lent (l .0) (l .1 .0) (l .1 .1 .0) (l .1 .1 .1 .0) (l .1 .1 .1 .1 .0) (l .1 .1 .1 .1 .1 .0) (l .1 .1 .1 .1 .1 .1 .0)
 
--- what it promises of the target box as it was given, not as it is read from its bits
+-- what it promises of the target box as it was given
 promised : (c : tie.After-field) → FieldPromise reach (input (c .before .before .before .before .before .before .before .before .before .before .before .before .before .before)) zeroField (after c) (answerOf (c .field .result))
 promised c =
-    let t = c .before .before .before .before .before .before .before .before .before .before .before .before .before .before .args .targets in
+    let a = c .before .before .before .before .before .before .before .before .before .before .before .before .before .before .args in
+    let t = a .targets in
     let told = c .before .struct-told4 .given in
-    rw (
-      toZ-ofZ w32 (t .left) (sfits-of (told .0 .1)),
-      toZ-ofZ w32 (t .top) (sfits-of (told .1 .0 .1)),
-      toZ-ofZ w32 (t .right) (sfits-of (told .1 .1 .0 .1)),
-      toZ-ofZ w32 (t .bottom) (sfits-of (told .1 .1 .1 .0 .1)),
-    ) at (c .field .ensures)
+    as-given (a .width) (a .height) (now (a .cells)) (now (a .blockers)) (now (a .resources)) (t .left) (t .top) (t .right) (t .bottom) zeroField (after c) (answerOf (c .field .result))
+    (sfits-of (told .0 .1)) (sfits-of (told .1 .0 .1)) (sfits-of (told .1 .1 .0 .1)) (sfits-of (told .1 .1 .1 .0 .1)) (c .field .ensures)
 
 slice-aggregate-field : tie.Need-slice-aggregate-field
 slice-aggregate-field c = sym (length-replicate {A = ℤ} 30752 (pos 0))
