@@ -20,9 +20,10 @@ pub fn drawn(page: &mut [u8], judged: Judged, cells: &[u8], numbers: &[i32]) -> 
             blockers,
             resources,
         } => {
+            let count = blockers + resources;
             let from = 4 * blockers;
-            let to = 4 * (blockers + resources);
-            let targets = fournumbers::corners_at(numbers, blockers + resources);
+            let to = 4 * count;
+            let targets = fournumbers::corners_at(numbers, count);
             return drawing::draw(
                 page,
                 width as u32,

@@ -40,17 +40,14 @@ returns c =
 enum-known-judged-2 : tie.Need-enum-known-judged-2
 enum-known-judged-2 c = search needs
 
+add-count : tie.Need-add-count
+add-count c = rectangles-few (room c)
+
 mul-from : tie.Need-mul-from
 mul-from c = blockers-end (room c)
 
-add-to : tie.Need-add-to
-add-to c = rectangles-few (room c)
-
 mul-to : tie.Need-mul-to
 mul-to c = resources-end (room c)
-
-add-corners-at : tie.Need-add-corners-at
-add-corners-at c = rectangles-few (room c)
 
 corners-at-requires : tie.Need-corners-at-requires
 corners-at-requires c κs = box-inside (room c) (now (c .before .before .before .before .before .args .numbers)) (read c .numbers-room)
@@ -109,10 +106,9 @@ drawn-spec =
     same-length
     returns
     enum-known-judged-2
+    add-count
     mul-from
-    add-to
     mul-to
-    add-corners-at
     corners-at-requires
     cast-draw
     cast-draw-2
