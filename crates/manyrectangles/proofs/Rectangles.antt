@@ -19,7 +19,7 @@ use Rattle.rings.proofs.Search.{all-good}
 use Rattle.judge.proofs.Accepted.{grid}
 use Rattle.ringruns.specs.Runs.{OnMap}
 use Rattle.ringrows.specs.Rows.{ringPlaces}
-use Rattle.access.proofs.Answers.{found-on-map, found-access}
+use Rattle.ringrows.proofs.OfResources.{found-on-map, found-access}
 use Rattle.manyrectangles.specs.AllCells.{cellsOf}
 use Rattle.manyrectangles.specs.Listing.{OneOf}
 

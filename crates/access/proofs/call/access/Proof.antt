@@ -10,7 +10,8 @@ use Rattle.rings.specs.Rings.{corners, RingOf, Accepted}
 use Rattle.judge.proofs.Accepted.{grid}
 use Rattle.judge.proofs.Judging.{found-bad, found-good}
 use Rattle.countanswer.specs.Answers.{listedOf}
-use Rattle.access.proofs.Answers.{grid-refused, resource-refused, found-on-map, ring-answered}
+use Rattle.ringrows.proofs.OfResources.{found-on-map}
+use Rattle.access.proofs.Answers.{grid-refused, resource-refused, ring-answered}
 use Rattle.access.proofs.call.access.Statement.{statement}
 use Rattle.access.proofs.call.access.Tie as tie
 
