@@ -14,11 +14,12 @@ use Rattle.walkgraph.proofs.LinkSearch.{joined-by}
 use Rattle.walkgraph.proofs.DisjointSet.{Same, same-back, same-chain}
 use Rattle.walklaws.proofs.SearchEnd.{linked-over}
 use Rattle.disjoint.specs.Forest.{of}
+use Rattle.disjoint.specs.Rooted.{Rooted}
 use Rattle.cellstate.specs.Labels.{ownerOf}
 use Rattle.visits.specs.SearchState.{Seeds, Links}
 use Rattle.join.specs.Search.{Seeded, Ran}
 use Rattle.join.proofs.Running.{same-any, ran-joins}
-use Rattle.numbering.specs.Fields.{Rooted, FieldNumbers}
+use Rattle.numbering.specs.Fields.{FieldNumbers}
 use Rattle.numbering.proofs.Giving.{fields-numbered}
 use Rattle.seeds.specs.Sown.{Sown}
 use Rattle.roots.specs.Roots.{AtRoots}

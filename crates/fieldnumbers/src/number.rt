@@ -2,7 +2,8 @@
 use numbering::give;
 ghost use mathlib.Core.Path.{_≡_};
 ghost use lib.ListN.{length};
-ghost use Rattle.numbering.specs.Fields.{Rooted, Cleared, FieldNumbers};
+ghost use Rattle.disjoint.specs.Rooted.{Rooted};
+ghost use Rattle.numbering.specs.Fields.{Cleared, FieldNumbers};
 
 // Makes every answer 65535, which says that there is no number yet.
 pub fn clear(answers: &mut [u16])

@@ -12,7 +12,9 @@ use Rattle.walkgraph.specs.Links.{Joined, alone, linked, back, chain, Numbered}
 use Rattle.walkgraph.proofs.Tests.{by-cases}
 use Rattle.walkgraph.proofs.Numbering.{seek, numbered-like}
 use Rattle.walklaws.proofs.NumberingMade.{number-old, number-new, partial-done}
-use Rattle.numbering.specs.Fields.{of, SameRoot, Rooted, Cleared, Given, FieldNumbers}
+use Rattle.disjoint.specs.Forest.{of}
+use Rattle.disjoint.specs.Rooted.{Rooted}
+use Rattle.numbering.specs.Fields.{SameRoot, Cleared, Given, FieldNumbers}
 
 -- resources that a chain joins have one root
 pub joined-root : (parents : List ℕ) {r s : ℕ} → Joined (SameRoot parents) r s → of parents r ≡ of parents s

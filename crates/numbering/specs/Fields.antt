@@ -3,22 +3,14 @@ use mathlib.Core.Path.{_≡_}
 use mathlib.Core.Logic.{_≢_}
 use mathlib.Core.List.{List}
 use Prim.Native.Nat.{ℕ, _≤_, _<_}
-use lib.ListN.{getD, length}
+use lib.ListN.{length}
 use Rattle.walklaws.proofs.NumberingMade.{Partial}
-
--- a list by its entries
-abbrev pub of : List ℕ → ℕ → ℕ
-of l i = getD l i 0
+use Rattle.disjoint.specs.Forest.{of}
+use Rattle.disjoint.specs.Rooted.{Rooted}
 
 -- two resources with one parent, which is the root of both
 abbrev pub SameRoot : List ℕ → ℕ → ℕ → Type 0
 SameRoot parents r s = of parents r ≡ of parents s
-
--- at most 512 resources, the parent of each a root
-pub record Rooted (parents : List ℕ) : Type 0 where
-  pub few : length parents ≤ 512
-  pub below : (r : ℕ) → r < length parents → of parents r < length parents
-  pub root : (r : ℕ) → r < length parents → of parents (of parents r) ≡ of parents r
 
 -- no resource has a number yet
 pub record Cleared (before after : List ℕ) : Type 0 where

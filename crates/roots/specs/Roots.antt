@@ -5,7 +5,7 @@ use Prim.Native.Nat.{ℕ, _<_}
 use lib.ListN.{length}
 use Rattle.walkgraph.proofs.DisjointSet.{Root}
 use Rattle.disjoint.specs.Forest.{of, Forest}
-use Rattle.numbering.specs.Fields.{Rooted}
+use Rattle.disjoint.specs.Rooted.{Rooted}
 
 -- the first m members have their roots as parents, and each root is as it was
 pub record Rooting (before after ranks : List ℕ) (m : ℕ) : Type 0 where

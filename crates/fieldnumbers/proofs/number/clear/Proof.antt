@@ -5,7 +5,7 @@ use native.Mathlib.Omega.{arith}
 use borrow.Author.Count.{below-more}
 use lib.ListN.{length, set, length-set}
 use lib.Seq.{getD-set-same, getD-set-other}
-use Rattle.numbering.specs.Fields.{of}
+use Rattle.disjoint.specs.Forest.{of}
 use Rattle.fieldnumbers.proofs.number.clear.Statement.{statement}
 use Rattle.fieldnumbers.proofs.number.clear.Tie as tie
 
