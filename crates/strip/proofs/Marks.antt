@@ -1,5 +1,5 @@
--- Marks of change: what is kept of them, and that the greatest of the marks says whether one is 0.
-use mathlib.Core.Path.{_≡_, refl, sym, ap, _∙_}
+-- Marks of change: what is kept of them are marks, and the greatest of the marks says whether one is 0.
+use mathlib.Core.Path.{_≡_, refl, ap}
 use mathlib.Core.Logic.{_⊎_, inl, inr}
 use mathlib.Core.List.{List}
 use Prim.Native.Nat.{ℕ, _+_, _<_, max}
@@ -8,33 +8,15 @@ use native.Mathlib.Decide.{ℕ-discrete}
 use lib.IntN.{ℤ, pos, negsuc}
 use lib.ListN.{length, getD, set}
 use lib.Dec.{eqb}
-use borrow.Author.Tests.{eq-eqb, ne-eqb, eqb-true, eqb-false}
+use borrow.Author.Tests.{eqb-true, eqb-false}
 use mir.Syntax.{w16}
 use mir.Val.{SFits, toZ, ofZ}
 use Rattle.walkgraph.proofs.Tests.{by-cases}
 use Rattle.lane.specs.Levels.{level, levelAt}
 use Rattle.lane.proofs.Levels.{level-one}
-use Rattle.strip.specs.Marks.{keptMark, keptAt, HasMarks, AreMarks, IsChanged}
+use Rattle.onelane.proofs.Mark.{kept-same, kept-other}
+use Rattle.strip.specs.Marks.{keptAt, HasMarks, AreMarks, IsChanged}
 use Rattle.strip.proofs.Entries.{one-more}
-
-module _ (mark : ℤ) (old new : ℕ) where
-  pub kept-same : old ≡ new → keptMark mark old new ≡ mark
-  unfolding keptMark
-  kept-same e = rw (eq-eqb old new e)
-
-  pub kept-other : (old ≡ new → ⊥) → keptMark mark old new ≡ pos 0
-  unfolding keptMark
-  kept-other e = rw (ne-eqb old new e)
-
-  -- and what a mark says of the two levels
-  pub kept-still : keptMark mark old new ≡ negsuc 0 → (mark ≡ negsuc 0) × (old ≡ new)
-  kept-still h =
-      by-cases (ℕ-discrete old new)
-      (λ e. (sym (kept-same e) ∙ h, e))
-      (λ e. let q = kept-other e in let z : _≡_ {A = ℕ} 0 1 = cc in absurd (omega arith))
-
-  pub kept-moved : keptMark mark old new ≡ pos 0 → (mark ≡ pos 0) ⊎ (old ≡ new → ⊥)
-  kept-moved h = by-cases (ℕ-discrete old new) (λ e. inl (sym (kept-same e) ∙ h)) (λ e. inr e)
 
 -- a store more
 pub marks-more : {given : ℕ → ℤ} (v : List ℤ) (k : ℕ) (x : ℤ) → k < length v → x ≡ given k → HasMarks k v given → HasMarks (k + 1) (set v k x) given

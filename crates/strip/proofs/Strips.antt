@@ -35,10 +35,6 @@ filled-more {levels} {k} {strip} x f l e h =
 pub filled-all : {levels : ℕ → ℕ} {k : ℕ} {strip : List ℤ} → Filled levels k strip → 8 ≤ k → HasLevels 8 strip levels
 filled-all h past = record { each = λ j l. h .has .each j (omega arith) }
 
--- a lane of a strip, read back from its bits
-pub lane-read : (strip : List ℤ) (k : ℕ) → SFits w16 (getD strip k (pos 0)) → level (toZ w16 (ofZ w16 (getD strip k (pos 0)))) ≡ levelAt strip k
-lane-read strip k f = read (getD strip k (pos 0)) f
-
 -- the place of a lane in its bytes, the next lane, and that it is nearer to the last
 pub lane-bytes : (k : ℕ) → k < 8 → Fits w64 (k * 2)
 lane-bytes k h = omega arith
@@ -48,15 +44,6 @@ lane-next k h = omega arith
 
 pub lane-nearer : (k : ℕ) → k < 8 → 8 - (k + 1) < 8 - k
 lane-nearer k h = omega arith
-
--- lane k of the strip at an index is in a buffer of n lanes
-pub record LaneIn (at k n : ℕ) : Type 0 where
-  pub index : Fits w64 (at + k)
-  pub bytes : Fits w64 ((at + k) * 2)
-  pub within : at + k < n
-
-pub lane-in : {at k n : ℕ} → at + 8 ≤ n → k < 8 → Fits w64 (n * 2) → LaneIn at k n
-lane-in h l f = record { index = omega arith; bytes = omega arith; within = omega arith }
 
 -- lanes read from a buffer
 pub is-lanes : (lanes : List ℤ) (at count : ℕ) (v : List ℤ) → length v ≡ count → ((k : ℕ) → k < count → getD v k (pos 0) ≡ getD lanes (at + k) (pos 0)) → v ≡ lanesAt lanes at count

@@ -1,19 +1,15 @@
 -- Marks of change, one for each lane of a strip: -1 as long as the lane stayed the same, 0 once it changed.
 use mathlib.Core.Path.{_≡_}
 use mathlib.Core.Logic.{_⊎_}
-use mathlib.Core.Bool.{Bool, true, false, cond}
+use mathlib.Core.Bool.{Bool, true, false}
 use mathlib.Core.List.{List}
 use Prim.Native.Nat.{ℕ, _<_}
 use lib.IntN.{ℤ, pos, negsuc}
 use lib.ListN.{getD}
-use lib.Dec.{eqb}
 use Rattle.lane.specs.Levels.{levelAt}
+use Rattle.onelane.specs.Mark.{keptMark}
 
--- a mark stays where two levels are equal, and is 0 where they differ
-unfoldable pub keptMark : ℤ → ℕ → ℕ → ℤ
-keptMark mark old new = cond (eqb old new) mark (pos 0)
-
--- lane by lane
+-- what is kept of them, lane by lane
 unfoldable pub keptAt : (same old new : List ℤ) → ℕ → ℤ
 keptAt same old new k = keptMark (getD same k (pos 0)) (levelAt old k) (levelAt new k)
 

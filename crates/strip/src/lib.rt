@@ -1,13 +1,13 @@
-// A strip: eight lanes of one cell, by value. What it does, it does lane by lane as `one` says.
-pub mod one;
-
+// A strip: eight lanes of one cell, by value. What it does, it does lane by lane as `onelane` says.
 use lane::value;
+use onelane;
 ghost use mathlib.Core.Path.{_≡_};
 ghost use Prim.Native.Nat.{_+_, _≤_};
 ghost use lib.ListN.{length};
 ghost use lib.Seq.{paste};
 ghost use Rattle.lane.specs.Levels.{levelAt};
-ghost use Rattle.strip.specs.Strips.{lanesAt, HasLevels, SlantFits, outAt, backAt};
+ghost use Rattle.onelane.specs.Takes.{SlantFits, outAt, backAt};
+ghost use Rattle.strip.specs.Strips.{lanesAt, HasLevels};
 ghost use Rattle.strip.specs.Marks.{HasMarks, keptAt, AreMarks, IsChanged};
 
 // The eight lanes at an index.
@@ -52,7 +52,7 @@ pub fn out(
 {
     let mut strip = [0i16; 8];
     for k in 0..8 {
-        strip[k] = one::out(
+        strip[k] = onelane::out(
             lanes,
             gates,
             i,
@@ -75,7 +75,7 @@ pub fn back(lanes: &[i16], gates: &[i16], i: usize, beside: [i16; 8], walk_gate:
 {
     let mut strip = [0i16; 8];
     for k in 0..8 {
-        strip[k] = one::back(lanes, gates, i, beside[k], walk_gate, k);
+        strip[k] = onelane::back(lanes, gates, i, beside[k], walk_gate, k);
     }
     strip
 }
@@ -86,7 +86,7 @@ pub fn kept(same: [i16; 8], old: [i16; 8], new: [i16; 8]) -> [i16; 8]
 {
     let mut strip = [0i16; 8];
     for k in 0..8 {
-        strip[k] = one::kept(same[k], old[k], new[k]);
+        strip[k] = onelane::kept(same[k], old[k], new[k]);
     }
     strip
 }

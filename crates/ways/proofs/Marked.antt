@@ -10,8 +10,10 @@ use lib.ListN.{getD}
 use Rattle.walkgraph.specs.Lists.{placed}
 use Rattle.walkgraph.proofs.Lists.{placed-in, placed-below, placed-above, by-place}
 use Rattle.strip.specs.Strips.{HasLevels}
-use Rattle.strip.specs.Marks.{keptMark, keptAt, HasMarks, AreMarks, IsChanged}
-use Rattle.strip.proofs.Marks.{kept-still, kept-moved, kept-marks}
+use Rattle.onelane.specs.Mark.{keptMark}
+use Rattle.onelane.proofs.Mark.{kept-still, kept-moved}
+use Rattle.strip.specs.Marks.{keptAt, HasMarks, AreMarks, IsChanged}
+use Rattle.strip.proofs.Marks.{kept-marks}
 use Rattle.ways.specs.Row.{Differ, Tells}
 
 -- marks that are all -1 say that two buffers are the same, and one that is 0 that they differ

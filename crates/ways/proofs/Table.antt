@@ -9,7 +9,7 @@ use lib.IntN.{ℤ, pos}
 use lib.ListN.{length}
 use Rattle.walkgraph.proofs.Tests.{by-cases}
 use Rattle.lane.specs.Levels.{levelAt, outLevel}
-use Rattle.strip.specs.Strips.{backAt}
+use Rattle.onelane.specs.Takes.{backAt}
 use Rattle.ways.specs.Row.{gate, backLevels}
 use Rattle.ways.specs.Buffers.{Gates}
 

@@ -9,7 +9,8 @@ use denote.Ref.{now}
 use borrow.Author.Needs.{needs}
 use Rattle.walkgraph.specs.Lists.{placed}
 use Rattle.lane.specs.Levels.{levelAt}
-use Rattle.strip.specs.Strips.{HasLevels, backAt}
+use Rattle.onelane.specs.Takes.{backAt}
+use Rattle.strip.specs.Strips.{HasLevels}
 use Rattle.strip.proofs.Strips.{levels-at}
 use Rattle.ways.specs.Row.{backLevels, backCell}
 use Rattle.ways.specs.Buffers.{flagAt}

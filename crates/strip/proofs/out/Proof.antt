@@ -5,8 +5,9 @@ use native.Mathlib.Omega.{arith}
 use denote.Ref.{now}
 use borrow.Author.Needs.{sfits-of}
 use Rattle.lane.specs.Levels.{levelAt}
-use Rattle.strip.specs.Strips.{outAt}
-use Rattle.strip.proofs.Strips.{Filled, filled-none, filled-more, filled-all, lane-read, lane-bytes, lane-next, lane-nearer}
+use Rattle.onelane.specs.Takes.{outAt}
+use Rattle.onelane.proofs.Places.{lane-read}
+use Rattle.strip.proofs.Strips.{Filled, filled-none, filled-more, filled-all, lane-bytes, lane-next, lane-nearer}
 use Rattle.strip.proofs.out.Statement.{statement}
 use Rattle.strip.proofs.out.Tie as tie
 

@@ -3,7 +3,7 @@ use mathlib.Core.Path.{_≡_, _∙_}
 use Prim.Native.Nat.{ℕ, _/_, _%_, _<_}
 use native.Mathlib.Nat.{mod-lt}
 use native.Mathlib.Omega.{arith}
-use Rattle.strip.specs.Strips.{outAt}
+use Rattle.onelane.specs.Takes.{outAt}
 use Rattle.ways.specs.Row.{turned}
 use Rattle.ways.proofs.Table.{gate-level, gate-in, wall-out}
 use Rattle.ways.proofs.cell.out.Statement.{statement}

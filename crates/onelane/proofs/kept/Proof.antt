@@ -1,4 +1,4 @@
--- `one::kept`: two lanes are equal exactly when their levels are.
+-- `onelane::kept`: two lanes are equal exactly when their levels are.
 use mathlib.Core.Path.{sym, ap, _∙_}
 use mir.Syntax.{w16}
 use mir.Val.{ofZ}
@@ -6,9 +6,9 @@ use mir.ValLaws.{toZ-ofZ}
 use Rattle.lane.specs.Levels.{level}
 use Rattle.lane.proofs.Machine.{equal}
 use Rattle.lane.proofs.Levels.{level-one}
-use Rattle.strip.proofs.Marks.{kept-same, kept-other}
-use Rattle.strip.proofs.one.kept.Statement.{statement}
-use Rattle.strip.proofs.one.kept.Tie as tie
+use Rattle.onelane.proofs.Mark.{kept-same, kept-other}
+use Rattle.onelane.proofs.kept.Statement.{statement}
+use Rattle.onelane.proofs.kept.Tie as tie
 
 returns : tie.Need-returns
 returns c =

@@ -4,8 +4,8 @@ ghost use mathlib.Core.Path.{_≡_};
 ghost use Prim.Native.Nat.{_+_, _≤_, _<_};
 ghost use lib.ListN.{length};
 ghost use Rattle.lane.specs.Levels.{level, levelAt};
-ghost use Rattle.strip.specs.Strips.{SlantFits, slantAt, outAt, backAt};
-ghost use Rattle.strip.specs.Marks.{keptMark};
+ghost use Rattle.onelane.specs.Takes.{SlantFits, slantAt, outAt, backAt};
+ghost use Rattle.onelane.specs.Mark.{keptMark};
 
 // The lesser of the two lanes beside the one in the feeding row, where their gates are open. A gate is -32,768 (open) or 32,767 (shut).
 pub fn slant(

@@ -1,4 +1,4 @@
--- `one::back`: the levels of its calls, put together as the code puts the calls together.
+-- `onelane::back`: the levels of its calls, put together as the code puts the calls together.
 use mathlib.Core.Path.{ap, ap₂, _∙_}
 use Prim.Native.Nat.{_+_, min, max}
 use native.Mathlib.Omega.{arith}
@@ -7,10 +7,10 @@ use denote.Ref.{now}
 use borrow.Author.Needs.{sfits-of}
 use Rattle.lane.specs.Levels.{saturated, backLevel}
 use Rattle.lane.proofs.Levels.{read}
-use Rattle.strip.specs.Strips.{backAt}
-use Rattle.strip.proofs.Strips.{LaneIn, lane-in, lane-read}
-use Rattle.strip.proofs.one.back.Statement.{statement}
-use Rattle.strip.proofs.one.back.Tie as tie
+use Rattle.onelane.specs.Takes.{backAt}
+use Rattle.onelane.proofs.Places.{LaneIn, lane-in, lane-read}
+use Rattle.onelane.proofs.back.Statement.{statement}
+use Rattle.onelane.proofs.back.Tie as tie
 
 -- the lane and its gate are in their buffers
 own : (c : tie.Start) → LaneIn (c .args .i) (c .args .k) (length (now (c .args .lanes)))

@@ -1,4 +1,4 @@
--- `one::slant`: the levels of its calls, put together as the code puts the calls together.
+-- `onelane::slant`: the levels of its calls, put together as the code puts the calls together.
 use mathlib.Core.Path.{ap₂, _∙_}
 use Prim.Native.Nat.{_+_, min, max}
 use native.Mathlib.Omega.{arith}
@@ -6,10 +6,10 @@ use lib.ListN.{length}
 use denote.Ref.{now}
 use borrow.Author.Needs.{sfits-of}
 use Rattle.lane.proofs.Levels.{read}
-use Rattle.strip.specs.Strips.{slantAt}
-use Rattle.strip.proofs.Strips.{LaneIn, lane-in, lane-read}
-use Rattle.strip.proofs.one.slant.Statement.{statement}
-use Rattle.strip.proofs.one.slant.Tie as tie
+use Rattle.onelane.specs.Takes.{slantAt}
+use Rattle.onelane.proofs.Places.{LaneIn, lane-in, lane-read}
+use Rattle.onelane.proofs.slant.Statement.{statement}
+use Rattle.onelane.proofs.slant.Tie as tie
 
 -- each lane is in its buffer
 west : (c : tie.Start) → LaneIn (c .args .west) (c .args .k) (length (now (c .args .lanes)))

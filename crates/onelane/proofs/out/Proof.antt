@@ -1,4 +1,4 @@
--- `one::out`: the levels of its calls, put together as the code puts the calls together.
+-- `onelane::out`: the levels of its calls, put together as the code puts the calls together.
 use mathlib.Core.Path.{_≡_, ap, ap₂, _∙_}
 use Prim.Native.Nat.{ℕ, _+_, min, max}
 use native.Mathlib.Omega.{arith}
@@ -7,10 +7,10 @@ use denote.Ref.{now}
 use borrow.Author.Needs.{sfits-of}
 use Rattle.lane.specs.Levels.{saturated, outLevel}
 use Rattle.lane.proofs.Levels.{read}
-use Rattle.strip.specs.Strips.{slantAt, outAt}
-use Rattle.strip.proofs.Strips.{LaneIn, lane-in, lane-read}
-use Rattle.strip.proofs.one.out.Statement.{statement}
-use Rattle.strip.proofs.one.out.Tie as tie
+use Rattle.onelane.specs.Takes.{slantAt, outAt}
+use Rattle.onelane.proofs.Places.{LaneIn, lane-in, lane-read}
+use Rattle.onelane.proofs.out.Statement.{statement}
+use Rattle.onelane.proofs.out.Tie as tie
 
 -- each lane is in the buffer
 own : (c : tie.Start) → LaneIn (c .args .i) (c .args .k) (length (now (c .args .lanes)))

@@ -1,0 +1,3 @@
+-- What the contracts of this crate speak of: what a lane takes, and its mark of change.
+pub mod Takes
+pub mod Mark
