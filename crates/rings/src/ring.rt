@@ -1,6 +1,7 @@
 // The body and the ring box of a resource; the box around all ring boxes.
 use cells::boxes::CellBox;
 use cells::edge;
+use fournumbers;
 use ringends;
 ghost use mathlib.Core.Path.{_≡_};
 ghost use mathlib.Core.Bool.{not};
@@ -70,12 +71,12 @@ pub fn ring_at(resources: &[i32], k: usize, width: usize, height: usize) -> Ring
     requires { ⌜ (width ≤ 1024) × (height ≤ 1024) × (4 * k + 4 ≤ length (now resources)) ⌝ }
     ensures { λ r. ⌜ RingOf width height (rectangle (now (resources .entry)) k) r ⌝ }
 {
-    let at = 4 * k;
+    let corners = fournumbers::corners_at(resources, k);
     ring_of(
-        resources[at],
-        resources[at + 1],
-        resources[at + 2],
-        resources[at + 3],
+        corners.left,
+        corners.top,
+        corners.right,
+        corners.bottom,
         width,
         height,
     )

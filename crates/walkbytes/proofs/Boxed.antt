@@ -1,16 +1,15 @@
 -- Painting a box of cells, and one box after the other.
-use mathlib.Core.Path.{_≡_, refl}
+use mathlib.Core.Path.{_≡_, refl, sym}
 use mathlib.Core.List.{List}
 use Prim.Native.Nat.{ℕ, _+_, _*_, _-_, _/_, _≤_, _<_, min, max}
 use native.Mathlib.Nat.{mul-le-mul, add-mul}
 use native.Mathlib.Numerals.{add-one}
 use native.Mathlib.Omega.{arith}
 use lib.IntN.{ℤ, pos, negsuc}
-use lib.ListN.{getD}
 use mir.Syntax.{w64}
 use mir.Val.{Fits}
 use borrow.Author.Tests.{lt-ltb, le-ltb}
-use Rattle.walkgraph.specs.Painting.{rectangle, clamp}
+use Rattle.walkgraph.specs.Painting.{Rectangle, rectangle, clamp}
 use Rattle.walkgraph.proofs.Places.{flat-lt}
 use Rattle.window.specs.declared.record.Window.{Window}
 use Rattle.window.specs.Fills.{zeros, rowsPlaced}
@@ -99,11 +98,10 @@ module _ (w : Window) (left top right bottom : ℕ) (before : ℕ → ℕ) where
   box-done after s x0 y0 x1 y1 h k e f g i j l = rw (lt-ltb left right h, lt-ltb top bottom k) (rw (e, f, g, i, j) at l)
 
 module _ (w : Window) (width height : ℕ) (blockers : List ℤ) where
-  pub blocker-done : (k : ℕ) (before after : ℕ → ℕ) (left top right bottom : ℕ) → left ≡ clamp (8 * width) (getD blockers (4 * k) (pos 0)) →
-      top ≡ clamp (8 * height) (getD blockers (4 * k + 1) (pos 0)) → right ≡ clamp (8 * width) (getD blockers (4 * k + 2) (pos 0)) →
-      bottom ≡ clamp (8 * height) (getD blockers (4 * k + 3) (pos 0)) → after ≡ boxPainted w left top right bottom before → after ≡ blockerPainted w width height blockers k before
-  unfolding blockerPainted rectangle
-  blocker-done k before after left top right bottom e f g h i = rw (e, f, g, h) at i
+  pub blocker-done : (k : ℕ) (r : Rectangle) (before after : ℕ → ℕ) (left top right bottom : ℕ) → r ≡ rectangle blockers k → left ≡ clamp (8 * width) (r .left) → top ≡ clamp (8 * height) (r .top) →
+      right ≡ clamp (8 * width) (r .right) → bottom ≡ clamp (8 * height) (r .bottom) → after ≡ boxPainted w left top right bottom before → after ≡ blockerPainted w width height blockers k before
+  unfolding blockerPainted
+  blocker-done k r before after left top right bottom q e f g h i = rw (sym q) (rw (e, f, g, h) at i)
 
   pub blockers-none : (before : ℕ → ℕ) → before ≡ blockersPainted w width height blockers 0 before
   unfolding blockersPainted

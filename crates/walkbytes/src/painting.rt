@@ -1,5 +1,6 @@
 // Painting: blockers make walk bytes unwalkable.
 use cells::edge;
+use fournumbers;
 use paintrows;
 use window::record;
 use window::record::Window;
@@ -48,14 +49,14 @@ fn paint_blocker(
     requires { ⌜ Paints window (length (now walk)) × (width ≤ 1024) × (height ≤ 1024) × (4 * k + 4 ≤ length (now blockers)) ⌝ }
     ensures { λ _. ⌜ entries (now (walk .exit)) ≡ blockerPainted window width height (now (blockers .entry)) k (entries (now (walk .entry))) ⌝ }
 {
-    let at = 4 * k;
+    let corners = fournumbers::corners_at(blockers, k);
     paint_box(
         walk,
         window,
-        edge::clamp(blockers[at], width),
-        edge::clamp(blockers[at + 1], height),
-        edge::clamp(blockers[at + 2], width),
-        edge::clamp(blockers[at + 3], height),
+        edge::clamp(corners.left, width),
+        edge::clamp(corners.top, height),
+        edge::clamp(corners.right, width),
+        edge::clamp(corners.bottom, height),
     );
 }
 

@@ -1,80 +1,29 @@
--- `rings::ring::ring_at`: its four numbers are those of the rectangle.
-use Prim.Native.Nat.{_+_, _*_}
-use borrow.Author.Needs.{needs, sfits-of}
-use lib.IntN.{pos}
-use lib.ListN.{getD}
+-- `rings::ring::ring_at`: its corners are those of the rectangle.
+use mathlib.Core.Path.{sym}
 use mir.Syntax.{w32}
 use mir.ValLaws.{toZ-ofZ}
-use Rattle.walkgraph.specs.Painting.{rectangle}
+use borrow.Author.Needs.{needs, sfits-of}
 use Rattle.rings.proofs.ring.ring_at.Statement.{statement}
 use Rattle.rings.proofs.ring.ring_at.Tie as tie
 
-mul-at : tie.Need-mul-at
-mul-at c = search needs
-
-mul-ring-of : tie.Need-mul-ring-of
-mul-ring-of c = search needs
-
-shared-slice-copy-out-ring-of : tie.Need-shared-slice-copy-out-ring-of
-shared-slice-copy-out-ring-of c = search needs
-
-add-ring-of : tie.Need-add-ring-of
-add-ring-of c = search needs
-
-mul-ring-of-2 : tie.Need-mul-ring-of-2
-mul-ring-of-2 c = search needs
-
-shared-slice-copy-out-ring-of-2 : tie.Need-shared-slice-copy-out-ring-of-2
-shared-slice-copy-out-ring-of-2 c = search needs
-
-add-ring-of-2 : tie.Need-add-ring-of-2
-add-ring-of-2 c = search needs
-
-mul-ring-of-3 : tie.Need-mul-ring-of-3
-mul-ring-of-3 c = search needs
-
-shared-slice-copy-out-ring-of-3 : tie.Need-shared-slice-copy-out-ring-of-3
-shared-slice-copy-out-ring-of-3 c = search needs
-
-add-ring-of-3 : tie.Need-add-ring-of-3
-add-ring-of-3 c = search needs
-
-mul-ring-of-4 : tie.Need-mul-ring-of-4
-mul-ring-of-4 c = search needs
-
-shared-slice-copy-out-ring-of-4 : tie.Need-shared-slice-copy-out-ring-of-4
-shared-slice-copy-out-ring-of-4 c = search needs
+corners-at-requires : tie.Need-corners-at-requires
+corners-at-requires c κs = search needs
 
 ring-of-requires : tie.Need-ring-of-requires
 ring-of-requires c κs = search needs
 
 returns : tie.Need-returns
-unfolding rectangle
 returns c =
-    let l = c .before .before .before .before .before .args .resources .now in
-    let at = 4 * c .before .before .before .before .before .args .k in
+    let found = c .before .before .before .before .before .corners-at in
+    let r = found .result in
+    let told = c .before .struct-told4 .given in
+    rw (sym (found .ensures)) (
     rw (
-      toZ-ofZ w32 (getD l at (pos 0)) (sfits-of (c .before .before .before .before .ring-of-arg .given)),
-      toZ-ofZ w32 (getD l (at + 1) (pos 0)) (sfits-of (c .before .before .before .ring-of-arg2 .given)),
-      toZ-ofZ w32 (getD l (at + 2) (pos 0)) (sfits-of (c .before .before .ring-of-arg3 .given)),
-      toZ-ofZ w32 (getD l (at + 3) (pos 0)) (sfits-of (c .before .ring-of-arg4 .given)),
-    ) at (c .ring-of .ensures)
+      toZ-ofZ w32 (r .left) (sfits-of (told .0 .1)),
+      toZ-ofZ w32 (r .top) (sfits-of (told .1 .0 .1)),
+      toZ-ofZ w32 (r .right) (sfits-of (told .1 .1 .0 .1)),
+      toZ-ofZ w32 (r .bottom) (sfits-of (told .1 .1 .1 .0 .1)),
+    ) at (c .ring-of .ensures))
 
 pub ring-at-spec : {M : Type 1} → statement M
-ring-at-spec =
-    tie.close
-    (tie.spec
-    mul-at
-    mul-ring-of
-    shared-slice-copy-out-ring-of
-    add-ring-of
-    mul-ring-of-2
-    shared-slice-copy-out-ring-of-2
-    add-ring-of-2
-    mul-ring-of-3
-    shared-slice-copy-out-ring-of-3
-    add-ring-of-3
-    mul-ring-of-4
-    shared-slice-copy-out-ring-of-4
-    ring-of-requires
-    returns)
+ring-at-spec = tie.close (tie.spec corners-at-requires ring-of-requires returns)
