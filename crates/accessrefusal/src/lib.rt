@@ -5,7 +5,7 @@ ghost use lib.Dec.{ltb, eqb};
 ghost use Rattle.walkgraph.specs.Refusals.{all, neverFall, lastEnd, badAccess};
 
 // The ends never fall, and the last of them is the length of the list: 0 where there is none.
-pub fn ends_ok(listed: usize, ends: &[u32]) -> bool
+fn ends_ok(listed: usize, ends: &[u32]) -> bool
     ensures { λ r. ⌜ r ≡ (neverFall 0 (now (ends .entry)) && eqb (lastEnd 0 (now (ends .entry))) listed) ⌝ }
 {
     let mut last: u32 = 0;
@@ -19,7 +19,7 @@ pub fn ends_ok(listed: usize, ends: &[u32]) -> bool
 }
 
 // Every index is one of a cell.
-pub fn below(cells: usize, indices: &[u32]) -> bool
+fn below(cells: usize, indices: &[u32]) -> bool
     ensures { λ r. ⌜ r ≡ all (λ i. ltb i cells) (now (indices .entry)) ⌝ }
 {
     for k in 0..indices.len() {

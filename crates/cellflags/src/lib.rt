@@ -4,7 +4,7 @@ ghost use Prim.Native.Nat.{_*_, _≤_};
 ghost use Rattle.cellflags.specs.CellFlags.{flagsOf};
 
 // The flag of a diagonal move, by its two side cells.
-pub fn corner(one: u8, other: u8, flag: u8) -> u8
+fn corner(one: u8, other: u8, flag: u8) -> u8
     requires { ⌜ (one ≤ 1) × (other ≤ 1) ⌝ }
     ensures { λ r. ⌜ r ≡ flag * (one * other) ⌝ }
 {

@@ -6,7 +6,7 @@ ghost use Rattle.page.specs.Puts.{Puts, Room};
 ghost use Rattle.celllines.specs.Costs.{costTexts, cellLine};
 
 // Puts the costs of all resources.
-pub fn costs(page: &mut [u8], at: usize, part: &[i16], resources: usize) -> usize
+fn costs(page: &mut [u8], at: usize, part: &[i16], resources: usize) -> usize
     requires { ⌜ Room (costTexts (now part) resources) at (now page) ⌝ }
     ensures { λ r. ⌜ Puts (costTexts (now (part .entry)) resources) (now (page .entry)) at (now (page .exit)) r ⌝ }
 {

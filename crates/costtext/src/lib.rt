@@ -6,7 +6,7 @@ ghost use Rattle.page.specs.Puts.{Puts, Room};
 ghost use Rattle.costtext.specs.Costs.{costText, costAt};
 
 // Puts the cost that a lane holds, or `-` where it holds none.
-pub fn cost(page: &mut [u8], at: usize, lane: i16) -> usize
+fn cost(page: &mut [u8], at: usize, lane: i16) -> usize
     requires { ⌜ Room (costText lane) at (now page) ⌝ }
     ensures { λ r. ⌜ Puts (costText lane) (now (page .entry)) at (now (page .exit)) r ⌝ }
 {

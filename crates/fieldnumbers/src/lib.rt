@@ -1,5 +1,5 @@
 // The numbers of the fields from the disjoint set of resources, and the buffers that end as 0.
-pub mod number;
+mod number;
 
 use roots;
 use zeros;

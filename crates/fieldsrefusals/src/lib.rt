@@ -18,7 +18,7 @@ pub struct Lent {
 }
 
 // Whether the lent buffers are long enough for so many cells and resources.
-pub fn room_ok(cells: usize, resources: usize, lent: Lent) -> bool
+fn room_ok(cells: usize, resources: usize, lent: Lent) -> bool
     ensures { λ r. ⌜ r ≡ not (shortJoin cells resources (lengthsOf lent)) ⌝ }
 {
     if lent.states < cells {

@@ -10,7 +10,7 @@ ghost use Rattle.window.specs.Fills.{entries, windowRows};
 ghost use Rattle.flags.specs.Flags.{flagAt, FlagRow, FlagRowAt, FlagRows, flagRows};
 
 // The flags of one row of count cells, from the three rows of walk bytes around it.
-pub fn flag_row(walk: &[u8], stride: usize, flags: &mut [u8], count: usize)
+fn flag_row(walk: &[u8], stride: usize, flags: &mut [u8], count: usize)
     requires { ⌜ FlagRow (now walk) stride (length (now flags)) count ⌝ }
     ensures { λ _. ⌜ entries (now (flags .exit)) ≡ placed (entries (now (flags .entry))) 0 count (λ x. flagAt (entries (now (walk .entry))) stride (stride + 1 + x)) ⌝ }
 {
@@ -26,7 +26,7 @@ pub fn flag_row(walk: &[u8], stride: usize, flags: &mut [u8], count: usize)
 }
 
 // The flags of the row that starts at an index: a part of the walk bytes that starts one row above it is lent.
-pub fn flag_row_at(walk: &[u8], stride: usize, flags: &mut [u8], row: usize, count: usize)
+fn flag_row_at(walk: &[u8], stride: usize, flags: &mut [u8], row: usize, count: usize)
     requires { ⌜ FlagRowAt (now walk) stride (length (now flags)) row count ⌝ }
     ensures { λ _. ⌜ entries (now (flags .exit)) ≡ placed (entries (now (flags .entry))) (row + 1) count (λ x. flagAt (entries (now (walk .entry))) stride (row + 1 + x)) ⌝ }
 {

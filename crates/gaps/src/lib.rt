@@ -20,7 +20,7 @@ pub fn gap(value: usize, low: usize, high: usize) -> usize
 }
 
 // The octile cost of an offset.
-pub fn octile(dx: usize, dy: usize) -> usize
+fn octile(dx: usize, dy: usize) -> usize
     requires { ⌜ (dx ≤ 1024) × (dy ≤ 1024) ⌝ }
     ensures { λ r. ⌜ r ≡ octile dx dy ⌝ }
 {

@@ -4,7 +4,7 @@ ghost use Prim.Native.Nat.{max};
 ghost use Rattle.greatestbyte.specs.Greatest.{greatest};
 
 // The greater of two bytes.
-pub fn most(x: u8, y: u8) -> u8
+fn most(x: u8, y: u8) -> u8
     ensures { λ r. ⌜ r ≡ max x y ⌝ }
 {
     if x > y { x } else { y }

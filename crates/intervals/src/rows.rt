@@ -21,7 +21,7 @@ pub struct RowGaps {
 }
 
 // Whether the window has this column, counted from 0, and it is not inside.
-pub fn outside_before(window: Window, gaps: RowGaps, column: usize) -> bool
+fn outside_before(window: Window, gaps: RowGaps, column: usize) -> bool
     requires { ⌜ InRow window gaps ⌝ }
     ensures { λ r. ⌜ r ≡ (ltb column (window .width) && not (insideGaps window gaps (column + 1))) ⌝ }
 {
@@ -40,7 +40,7 @@ pub fn outside_before(window: Window, gaps: RowGaps, column: usize) -> bool
 }
 
 // The columns before the first inside one; all of them in a row that has none.
-pub fn first_inside(window: Window, gaps: RowGaps) -> usize
+fn first_inside(window: Window, gaps: RowGaps) -> usize
     requires { ⌜ InRow window gaps ⌝ }
     ensures { λ r. ⌜ r + 1 ≡ firstOf window (insideGaps window gaps) ⌝ }
 {
@@ -52,7 +52,7 @@ pub fn first_inside(window: Window, gaps: RowGaps) -> usize
 }
 
 // Whether there is a column from the first inside one on that the last count columns leave, and the last such is not inside.
-pub fn outside_after(window: Window, gaps: RowGaps, first: usize, count: usize) -> bool
+fn outside_after(window: Window, gaps: RowGaps, first: usize, count: usize) -> bool
     requires { ⌜ InRow window gaps × (first ≤ 1024) × (count ≤ 1024) ⌝ }
     ensures { λ r. ⌜ r ≡ (ltb (first + count) (window .width) && not (insideGaps window gaps (window .width - count))) ⌝ }
 {
@@ -66,7 +66,7 @@ pub fn outside_after(window: Window, gaps: RowGaps, first: usize, count: usize) 
 }
 
 // The columns after the last inside one, of those from the first inside one on.
-pub fn after_inside(window: Window, gaps: RowGaps, first: usize) -> usize
+fn after_inside(window: Window, gaps: RowGaps, first: usize) -> usize
     requires { ⌜ InRow window gaps × (first + 1 ≡ firstOf window (insideGaps window gaps)) ⌝ }
     ensures { λ r. ⌜ (r ≤ window .width) × (window .width - r + 1 ≡ pastOf window (insideGaps window gaps)) ⌝ }
 {
@@ -78,7 +78,7 @@ pub fn after_inside(window: Window, gaps: RowGaps, first: usize) -> usize
 }
 
 // Writes the interval of one window row.
-pub fn write_row(rows: &mut [u16], window: Window, sources: CellBox, targets: CellBox, y: usize)
+fn write_row(rows: &mut [u16], window: Window, sources: CellBox, targets: CellBox, y: usize)
     requires { ⌜ RowEnds window sources targets (length (now rows)) × (y < window .height) ⌝ }
     ensures { λ _. ⌜ entries (now (rows .exit)) ≡ placed (entries (now (rows .entry))) (2 * y) 2 (ends window (boxOf sources) (boxOf targets) (y + 1)) ⌝ }
 {

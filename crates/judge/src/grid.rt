@@ -6,7 +6,7 @@ ghost use Rattle.walkgraph.specs.Refusals.{badGrid};
 ghost use Rattle.judge.specs.Grids.{inLimits};
 
 // A width or a height is 1 to 1,024.
-pub fn size_ok(size: u32) -> bool
+fn size_ok(size: u32) -> bool
     ensures { λ r. ⌜ r ≡ inLimits size ⌝ }
 {
     if size < 1 {

@@ -8,7 +8,7 @@ ghost use Rattle.onelane.specs.Takes.{SlantFits, slantAt, outAt, backAt}
 ghost use Rattle.onelane.specs.Mark.{keptMark};
 
 // The lesser of the two lanes beside the one in the feeding row, where their gates are open. A gate is -32,768 (open) or 32,767 (shut).
-pub fn slant(
+fn slant(
     lanes: &[i16],
     gates: &[i16],
     west: usize,

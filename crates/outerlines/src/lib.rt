@@ -24,7 +24,7 @@ pub fn head(page: &mut [u8], at: usize, window: Window, sweeps: usize, cells: us
 }
 
 // Puts the lines of all resources' fields.
-pub fn fields(page: &mut [u8], at: usize, answers: &[u16], resources: usize) -> usize
+fn fields(page: &mut [u8], at: usize, answers: &[u16], resources: usize) -> usize
     requires { ⌜ FieldsRoom (now answers) resources at (now page) ⌝ }
     ensures { λ r. ⌜ PutsWithin 48 (fieldLines (now (answers .entry)) resources) (now (page .entry)) at (now (page .exit)) r ⌝ }
 {

@@ -1,3 +1,3 @@
 // The moves from a cell that need a look.
 pub mod list;
-pub mod pick;
+mod pick;

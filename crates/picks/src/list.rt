@@ -9,7 +9,7 @@ ghost use Rattle.picks.specs.Picks.{inner};
 ghost use Rattle.picks.specs.Listed.{OnMap, Table, Listed};
 
 // A column or a row has one on each side.
-pub fn inner(place: usize, size: usize) -> bool
+fn inner(place: usize, size: usize) -> bool
     requires { ⌜ place < size ⌝ }
     ensures { λ r. ⌜ r ≡ inner place size ⌝ }
 {
@@ -20,7 +20,7 @@ pub fn inner(place: usize, size: usize) -> bool
 }
 
 // A cell has eight neighbours.
-pub fn central(width: usize, height: usize, x: usize, y: usize) -> bool
+fn central(width: usize, height: usize, x: usize, y: usize) -> bool
     requires { ⌜ (x < width) × (y < height) ⌝ }
     ensures { λ r. ⌜ r ≡ (inner x width && inner y height) ⌝ }
 {

@@ -5,7 +5,7 @@ ghost use lib.ListN.{length};
 ghost use Rattle.picks.specs.Picks.{one, within, Picked, Kept, isNear, isInside, Around, Edge};
 
 // 1 where a column or a row, counted from 1, is in the map, else 0.
-pub fn within(place: usize, size: usize) -> usize
+fn within(place: usize, size: usize) -> usize
     ensures { λ r. ⌜ r ≡ one (within place size) ⌝ }
 {
     if place < 1 {
@@ -15,7 +15,7 @@ pub fn within(place: usize, size: usize) -> usize
 }
 
 // The list with move k at its end, where it is picked; answers how many moves are listed then.
-pub fn keep(list: &mut [u8; 9], count: usize, k: usize, picked: bool) -> usize
+fn keep(list: &mut [u8; 9], count: usize, k: usize, picked: bool) -> usize
     requires { ⌜ (count < 9) × (k < 9) × (length (now list) ≡ 9) ⌝ }
     ensures { λ r. ⌜ Kept (now (list .entry)) count k picked (now (list .exit)) r ⌝ }
 {

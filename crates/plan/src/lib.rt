@@ -35,7 +35,7 @@ pub enum Plan {
 }
 
 // Whether the lent buffers are as long as the window needs.
-pub fn room_ok(window: Window, lent: Lent) -> bool
+fn room_ok(window: Window, lent: Lent) -> bool
     requires { ⌜ (window .width ≤ 1024) × (window .height ≤ 1024) × (window .lanes ≤ 16) ⌝ }
     ensures { λ r. ⌜ r ≡ enough window lent ⌝ }
 {
@@ -59,7 +59,7 @@ pub fn room_ok(window: Window, lent: Lent) -> bool
 }
 
 // The site of accepted resources and targets.
-pub fn site_of(
+fn site_of(
     width: usize,
     height: usize,
     lanes: usize,
@@ -90,7 +90,7 @@ pub fn site_of(
 }
 
 // The plan of accepted resources and targets: refusal 7 is left.
-pub fn plan_site(site: Site, lent: Lent) -> Plan
+fn plan_site(site: Site, lent: Lent) -> Plan
     requires { ⌜ GoodSite site ⌝ }
     ensures { λ r. ⌜ r ≡ sitePlan site lent ⌝ }
 {

@@ -7,7 +7,7 @@ ghost use Rattle.walkgraph.specs.Map.{inBox};
 ghost use Rattle.cells.specs.Boxes.{boxOf};
 
 // Whether a value is in an interval, ends included.
-pub fn holds(low: usize, high: usize, value: usize) -> bool
+fn holds(low: usize, high: usize, value: usize) -> bool
     ensures { λ r. ⌜ r ≡ (leb low value && leb value high) ⌝ }
 {
     if value < low {

@@ -6,7 +6,7 @@ ghost use Rattle.ringlists.specs.Places.{openPlace, openPlaces};
 ghost use Rattle.ringlists.specs.Lists.{Puts, RunFits, Listed};
 
 // 1 of a walkable cell, 0 of another, whatever its place.
-pub fn tally(byte: u8) -> usize
+fn tally(byte: u8) -> usize
     ensures { λ r. ⌜ r ≡ length (openPlace byte 0) ⌝ }
 {
     if byte == 1 { 1 } else { 0 }
@@ -25,7 +25,7 @@ pub fn count_run(cells: &[u8], from: usize, count: usize) -> usize
 }
 
 // Lists a cell's place behind used entries, if it is walkable; answers how many entries are used then.
-pub fn put(out: &mut [u32], used: usize, place: usize, byte: u8) -> usize
+fn put(out: &mut [u32], used: usize, place: usize, byte: u8) -> usize
     requires { ⌜ Puts (openPlace byte place) place used (length (now out)) ⌝ }
     ensures { λ r. ⌜ Listed (openPlace byte place) (now (out .entry)) used (now (out .exit)) r ⌝ }
 {

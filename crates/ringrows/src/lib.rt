@@ -1,3 +1,3 @@
 // The walkable cells of a ring, row by row, counted and listed.
-pub mod row;
+mod row;
 pub mod rows;

@@ -20,7 +20,7 @@ pub enum Ring {
 }
 
 // Whether a span of pixels is one of a resource, along an axis of size cells.
-pub fn spans(low: i32, high: i32, size: usize) -> bool
+fn spans(low: i32, high: i32, size: usize) -> bool
     requires { ⌜ size ≤ 1024 ⌝ }
     ensures { λ r. ⌜ r ≡ not (badSide size low high) ⌝ }
 {
@@ -34,7 +34,7 @@ pub fn spans(low: i32, high: i32, size: usize) -> bool
 }
 
 // The cell before, clamped to the map.
-pub fn before(cell: usize) -> usize
+fn before(cell: usize) -> usize
     ensures { λ r. ⌜ r ≡ cell - 1 ⌝ }
 {
     edge::past(1, cell)
@@ -83,7 +83,7 @@ pub fn ring_at(resources: &[i32], k: usize, width: usize, height: usize) -> Ring
 }
 
 // Whether there is a resource k and it is not refused.
-pub fn present(resources: &[i32], k: usize, width: usize, height: usize) -> bool
+fn present(resources: &[i32], k: usize, width: usize, height: usize) -> bool
     requires { ⌜ (width ≤ 1024) × (height ≤ 1024) ⌝ }
     ensures { λ r. ⌜ r ≡ isPresent width height (now (resources .entry)) k ⌝ }
 {
@@ -111,7 +111,7 @@ pub fn accepted(resources: &[i32], width: usize, height: usize) -> usize
 }
 
 // The box around a box and a ring box.
-pub fn around(boxed: CellBox, ring: Ring) -> CellBox
+fn around(boxed: CellBox, ring: Ring) -> CellBox
     ensures { λ r. ⌜ boxOf r ≡ around (boxOf boxed) ring ⌝ }
 {
     match ring {

@@ -1,3 +1,3 @@
 // One row of a sweep: both ways at either lane count, and the visit that may skip it.
-pub mod row;
+mod row;
 pub mod visit;

@@ -6,7 +6,7 @@ ghost use Rattle.ways.specs.Row.{OutDone, BackDone, RowDone};
 ghost use Rattle.ways.specs.Buffers.{Gates, flagAt, RowFits, BackFits};
 
 // The way out over count cells: first is the index of the first, feeding that of the cell that feeds it.
-pub fn out(
+fn out(
     lanes: &mut [i16],
     flags: &[u8],
     gates: &[i16; 16],
@@ -26,7 +26,7 @@ pub fn out(
 }
 
 // The way back over count cells: past is the index of the cell past the last.
-pub fn back(
+fn back(
     lanes: &mut [i16],
     flags: &[u8],
     gates: &[i16; 16],

@@ -1,4 +1,4 @@
 // The access cells of all resources, labelled: what the search of the fields starts from.
-pub mod ground;
+mod ground;
 pub mod seed;
-pub mod sow;
+mod sow;

@@ -14,7 +14,7 @@ ghost use Rattle.lane.specs.Levels.{levelAt};
 ghost use Rattle.start.specs.Hits.{startedLevels, ringHit, lanesHit, LaneRoom, LanesRoom};
 
 // Starts the lane of one resource.
-pub fn start_lane(
+fn start_lane(
     lanes: &mut [i16],
     walk: &[u8],
     rows: &[u16],

@@ -12,7 +12,7 @@ ghost use Rattle.cells.specs.Boxes.{boxOf};
 ghost use Rattle.start.specs.Hits.{startedLevels, rowHit, ringHit, RowRoom, RingRoom};
 
 // Starts one lane in row y of its ring box, of the window: in the columns that are inside.
-pub fn start_row(
+fn start_row(
     lanes: &mut [i16],
     walk: &[u8],
     rows: &[u16],

@@ -23,7 +23,7 @@ pub fn load(lanes: &[i16], at: usize) -> [i16; 8]
 }
 
 // Writes eight lanes at an index.
-pub fn store(lanes: &mut [i16], at: usize, strip: [i16; 8])
+fn store(lanes: &mut [i16], at: usize, strip: [i16; 8])
     requires { ⌜ at + 8 ≤ length (now lanes) ⌝ }
     ensures { λ _. ⌜ now (lanes .exit) ≡ paste (now (lanes .entry)) at strip 8 ⌝ }
 {
@@ -81,7 +81,7 @@ pub fn back(lanes: &[i16], gates: &[i16], i: usize, beside: [i16; 8], walk_gate:
 }
 
 // Lane by lane: still minus one where the strips agree, 0 where they differ.
-pub fn kept(same: [i16; 8], old: [i16; 8], new: [i16; 8]) -> [i16; 8]
+fn kept(same: [i16; 8], old: [i16; 8], new: [i16; 8]) -> [i16; 8]
     ensures { λ r. ⌜ HasMarks 8 r (keptAt same old new) ⌝ }
 {
     let mut strip = [0i16; 8];

@@ -48,7 +48,7 @@ pub fn sweep(
 }
 
 // One of the alternating sweeps: the even ones go down, and rows are fresh in number 0.
-pub fn alternate(
+fn alternate(
     lanes: &mut [i16],
     flags: &[u8],
     rows: &[u16],

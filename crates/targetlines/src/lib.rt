@@ -7,7 +7,7 @@ ghost use Rattle.page.specs.Puts.{Puts};
 ghost use Rattle.targetlines.specs.Targets.{lineAt, rowLines, targetLines, LineRoom, RowRoom, TargetRoom};
 
 // Puts the line of the cell (x, y), whose lanes are read by the window's record.
-pub fn line(
+fn line(
     page: &mut [u8],
     at: usize,
     window: Window,
@@ -24,7 +24,7 @@ pub fn line(
 }
 
 // Puts the lines of the target cells of row y.
-pub fn row(
+fn row(
     page: &mut [u8],
     at: usize,
     window: Window,

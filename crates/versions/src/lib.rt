@@ -10,7 +10,7 @@ ghost use Rattle.window.specs.Fills.{entries};
 ghost use Rattle.versions.specs.Versions.{VersionBuffers, BeforeSweeps, AfterSweeps};
 
 // Writes one number to count entries from an index on.
-pub fn set(numbers: &mut [u32], from: usize, count: usize, number: u32)
+fn set(numbers: &mut [u32], from: usize, count: usize, number: u32)
     requires { ⌜ from + count ≤ length (now numbers) ⌝ }
     ensures { λ _. ⌜ entries (now (numbers .exit)) ≡ placed (entries (now (numbers .entry))) from count (λ (k : ℕ). number) ⌝ }
 {

@@ -9,7 +9,7 @@ ghost use Rattle.window.specs.Fills.{entries, windowRows};
 ghost use Rattle.walkbytes.specs.Copies.{Copies, mapRows};
 
 // Copies count cells of the map into a row of walk bytes.
-pub fn copy_row(cells: &[u8], walk: &mut [u8], from: usize, to: usize, count: usize)
+fn copy_row(cells: &[u8], walk: &mut [u8], from: usize, to: usize, count: usize)
     requires { ⌜ (from + count ≤ length (now cells)) × (to + count ≤ length (now walk)) ⌝ }
     ensures { λ _. ⌜ entries (now (walk .exit)) ≡ placed (entries (now (walk .entry))) to count (λ x. entries (now (cells .entry)) (from + x)) ⌝ }
 {

@@ -11,14 +11,7 @@ ghost use Rattle.window.specs.Fills.{entries};
 ghost use Rattle.walkbytes.specs.Painting.{Paints, Pixels, boxPainted, blockerPainted, blockersPainted};
 
 // Paints the cells of a rectangle of clamped pixels that lie in the window.
-pub fn paint_box(
-    walk: &mut [u8],
-    window: Window,
-    left: usize,
-    top: usize,
-    right: usize,
-    bottom: usize,
-)
+fn paint_box(walk: &mut [u8], window: Window, left: usize, top: usize, right: usize, bottom: usize)
     requires { ⌜ Paints window (length (now walk)) × Pixels left top right bottom ⌝ }
     ensures { λ _. ⌜ entries (now (walk .exit)) ≡ boxPainted window left top right bottom (entries (now (walk .entry))) ⌝ }
 {

@@ -9,7 +9,7 @@ ghost use Rattle.cells.specs.Boxes.{reach};
 pub const REACH: usize = 96;
 
 // Half a sum, rounded toward minus infinity.
-pub fn half(sum: i32) -> i32
+fn half(sum: i32) -> i32
     ensures { λ r. ⌜ r ≡ floorHalf sum ⌝ }
 {
     sum >> 1

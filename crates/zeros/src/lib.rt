@@ -2,7 +2,7 @@
 ghost use Rattle.zeros.specs.Zeros.{Zero, Cleared};
 
 // Makes every entry 0.
-pub fn clear_u16(entries: &mut [u16])
+fn clear_u16(entries: &mut [u16])
     ensures { λ _. ⌜ Zero (now (entries .exit)) ⌝ }
 {
     for j in 0..entries.len() {
@@ -11,7 +11,7 @@ pub fn clear_u16(entries: &mut [u16])
 }
 
 // Makes every entry 0.
-pub fn clear_u32(entries: &mut [u32])
+fn clear_u32(entries: &mut [u32])
     ensures { λ _. ⌜ Zero (now (entries .exit)) ⌝ }
 {
     for j in 0..entries.len() {
@@ -20,7 +20,7 @@ pub fn clear_u32(entries: &mut [u32])
 }
 
 // Makes every entry 0.
-pub fn clear_u8(entries: &mut [u8])
+fn clear_u8(entries: &mut [u8])
     ensures { λ _. ⌜ Zero (now (entries .exit)) ⌝ }
 {
     for j in 0..entries.len() {
