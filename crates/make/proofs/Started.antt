@@ -12,9 +12,9 @@ use Rattle.walkgraph.specs.Lanes.{unreachable}
 use Rattle.walkgraph.specs.Sweep.{PaddedWindow, Direction, down, up, readRow, valueAt, starts}
 use Rattle.walkgraph.specs.Buffers.{Call, paddedOf, windowOf, sourceBox, startsLane, laneStart}
 use Rattle.walkgraph.proofs.Tests.{by-cases, cond-false}
-use Rattle.walkgraph.proofs.Sweeps.{written-in}
-use Rattle.walkgraph.proofs.Count.{starts-written, started-ind}
-use Rattle.walkgraph.proofs.RelaxedRow.{RowQuiet}
+use Rattle.walkgraph.proofs.SweepSteps.{written-in, starts-written}
+use Rattle.walklaws.proofs.Count.{started-ind}
+use Rattle.walklaws.proofs.RelaxedRow.{RowQuiet}
 use Rattle.walklaws.proofs.Skipping.{Feeds, fresh-start}
 use Rattle.walklaws.proofs.FieldCall.{shut, sources-in, lane-sound}
 use Rattle.sweep.proofs.RowLevels.{Holds}
@@ -38,7 +38,7 @@ module _ (c : Call) (quiet : ℕ) (above : quiet ≤ sourceBox c .top - windowOf
   -- no lane starts in the rows above the sources
   starts-below : (l x v : ℕ) → v ≤ quiet → ¬ (T (starts M (source l) x v))
   starts-below l x v h t =
-      let s = starts-written M (shut c) (source l) x v t in
+      let s = starts-written M (source l) x v t in
       let w = written-in M (shut c) x v (s .0) in
       let b = sources-in c l _ _ (s .1) in
       omega (arith, b .2)

@@ -16,7 +16,7 @@ use Rattle.walkgraph.proofs.Boxes.{in-box, box-in}
 use Rattle.walkgraph.proofs.Places.{flat-row, flat-column}
 use Rattle.walklaws.proofs.Intervals.{row-interval}
 use Rattle.walklaws.proofs.FieldCall.{shut, width-is, height-is}
-use Rattle.walkgraph.proofs.Sweeps.{PaddingShut}
+use Rattle.walkgraph.proofs.SweepSteps.{PaddingShut}
 use Rattle.window.specs.declared.record.Window.{Window}
 use Rattle.window.specs.Windows.{windowOver}
 use Rattle.start.specs.Hits.{startsHere, cellsHit, firstColumn, pastColumn, rowHit, ringHit, lanesHit}

@@ -11,9 +11,9 @@ use Rattle.walkgraph.specs.Sweep.{PaddedWindow, inWindow, written, readRow, cor
 use Rattle.walkgraph.specs.Buffers.{flagByte, cellPlace}
 use Rattle.walkgraph.proofs.Tests.{by-cases, decT, and-left, and-right, and-pair, cond-ind, cond-true, cond-false}
 use Rattle.walkgraph.proofs.Boxes.{box-in}
-use Rattle.walkgraph.proofs.Sweeps.{PaddingShut, written-in}
-use Rattle.walkgraph.proofs.RelaxedRow.{relaxed-at}
-use Rattle.walkgraph.proofs.RowPasses as Passes
+use Rattle.walkgraph.proofs.SweepSteps.{PaddingShut, written-in}
+use Rattle.walklaws.proofs.RelaxedRow.{relaxed-at}
+use Rattle.walklaws.proofs.RowPasses as Passes
 use Rattle.ways.specs.Row.{walkGate, westGate, eastGate}
 use Rattle.sweep.proofs.Gates.{FeedsRow, walk-gate, west-gate, east-gate}
 use Rattle.sweep.proofs.LevelStep.{out-open, out-shut, back-open, back-shut}

@@ -12,7 +12,7 @@ use Rattle.walkgraph.specs.Lanes.{unreachable}
 use Rattle.walkgraph.specs.Sweep.{PaddedWindow, inWindow, written, readRow, relaxed}
 use Rattle.walkgraph.specs.Buffers.{flagByte, cellPlace}
 use Rattle.walkgraph.proofs.Tests.{by-cases}
-use Rattle.walkgraph.proofs.Sweeps.{PaddingShut}
+use Rattle.walkgraph.proofs.SweepSteps.{PaddingShut}
 use Rattle.ways.specs.Row.{outRow, bothRow, Differ, RowDone, changed, both, kept}
 use Rattle.sweep.proofs.Gates.{FeedsRow}
 use Rattle.ways.proofs.Lanewise as Lanewise

@@ -11,7 +11,8 @@ use borrow.Author.Tests.{eq-eqb, ne-eqb}
 use Rattle.walkgraph.specs.Lanes.{unreachable}
 use Rattle.walkgraph.specs.Sweep.{PaddedWindow, written, valueAt, Direction, down, up, turn, direction, sweep, sweeps, Quiet, IsCount}
 use Rattle.walkgraph.proofs.Tests.{by-cases}
-use Rattle.walkgraph.proofs.Sweeps.{PaddingShut, Sound, sound-shut, sweeps-sound, quiet-last, twice, twice-is}
+use Rattle.walkgraph.proofs.SweepSteps.{PaddingShut}
+use Rattle.walklaws.proofs.Sweeps.{Sound, sound-shut, sweeps-sound, quiet-last, twice, twice-is}
 use Rattle.row.specs.Visits.{Ground, State}
 use Rattle.sweep.specs.Sweeps.{Run, begins, leaves, goesDown, Turns, Sweeps, start, next, Ended}
 use Rattle.sweep.specs.Buffers.{Stops}

@@ -10,8 +10,9 @@ use lib.Dec.{T}
 use Rattle.walkgraph.specs.Lanes.{unreachable}
 use Rattle.walkgraph.specs.Sweep.{PaddedWindow, written, readRow, valueAt, Direction, down, up, place, swept, sweep}
 use Rattle.walkgraph.proofs.Tests.{by-cases}
-use Rattle.walkgraph.proofs.Sweeps.{PaddingShut, written-in, place-place, place-le, sweep-row, sweep-past, swept-first, swept-next}
-use Rattle.walkgraph.proofs.RelaxedRow.{relaxed-length}
+use Rattle.walkgraph.proofs.SweepSteps.{PaddingShut, written-in, place-place, place-le}
+use Rattle.walklaws.proofs.Sweeps.{sweep-row, sweep-past, swept-first, swept-next}
+use Rattle.walklaws.proofs.RelaxedRow.{relaxed-length}
 use Rattle.walklaws.proofs.Skipping.{Fresh, quiet-row, fresh-same, empty-quiet}
 use Rattle.row.specs.Visits.{Ground, State, rowAt, feedAt}
 use Rattle.sweep.specs.Sweeps.{Turns, none, more}

@@ -15,8 +15,9 @@ use Rattle.walkgraph.specs.Lanes.{unreachable}
 use Rattle.walkgraph.specs.Sweep.{PaddedWindow, inWindow, written, readRow, valueAt, relaxed, Direction, down, up, place, swept}
 use Rattle.walkgraph.specs.Buffers.{flagByte, cellPlace}
 use Rattle.walkgraph.proofs.Tests.{by-cases, and-left, and-right, and-pair, cond-true, cond-false}
-use Rattle.walkgraph.proofs.Sweeps.{PaddingShut, written-in, place-place, place-le, swept-first, swept-next}
-use Rattle.walkgraph.proofs.RelaxedRow as Relaxed
+use Rattle.walkgraph.proofs.SweepSteps.{PaddingShut, written-in, place-place, place-le}
+use Rattle.walklaws.proofs.Sweeps.{swept-first, swept-next}
+use Rattle.walklaws.proofs.RelaxedRow as Relaxed
 use Rattle.walklaws.proofs.Skipping.{Feeds, Fresh, Relax, relax-fresh, relaxed-quiet, quiet-row, fresh-same, empty-quiet}
 use Rattle.ways.specs.Row.{RowDone}
 use Rattle.row.specs.Visits.{Ground, State, first, past, nextVersions, Visited, empty, skipped, done}

@@ -1,4 +1,4 @@
--- The mathematics of the walk graph that its definitions are tried by: walks, windows, sweeps and their count, access cells, links, the disjoint set and numbering.
+-- The mathematics of the walk graph that its definitions are tried by: walks, windows, what sweeps step by, access cells, links, the disjoint set and numbering.
 pub mod Tests
 pub mod Lists
 pub mod Signed
@@ -9,12 +9,8 @@ pub mod WindowEdges
 pub mod Walks
 pub mod Values
 pub mod WholeMap
-pub mod Settled
 pub mod Places
-pub mod RowPasses
-pub mod RelaxedRow
-pub mod Sweeps
-pub mod Count
+pub mod SweepSteps
 pub mod LinkSearch
 pub mod Tally
 pub mod DisjointSet

@@ -22,9 +22,11 @@ use Rattle.walkgraph.proofs.Tests.{by-cases, decT, and-left, and-right}
 use Rattle.walkgraph.proofs.Boxes.{in-box, box-in}
 use Rattle.walkgraph.proofs.Values.{Capped, to-capped, to-field, field-one}
 use Rattle.walkgraph.proofs.WholeMap.{whole-map}
-use Rattle.walkgraph.proofs.Sweeps.{Allowed, PaddingShut, written-in, Sound, sweeps-sound, sound-shut}
+use Rattle.walkgraph.proofs.SweepSteps.{Allowed, PaddingShut, written-in}
+use Rattle.walklaws.proofs.Sweeps.{Sound, sweeps-sound, sound-shut}
 use Rattle.walklaws.proofs.Maps.{painted-cell, ring-sources, outside}
-use Rattle.walkgraph.proofs.Count.{start-sound, count-one, count-most, count-field}
+use Rattle.walkgraph.proofs.SweepSteps.{count-one}
+use Rattle.walklaws.proofs.Count.{start-sound, count-most, count-field}
 use Rattle.walklaws.proofs.OnMap as OnMap
 
 -- ---- no two different results

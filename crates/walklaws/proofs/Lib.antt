@@ -1,4 +1,9 @@
--- The field call and its promise, skipped rows and row intervals, the two-sided search, numbering, and what the other promises determine.
+-- Sweeps and their count, the field call and its promise, skipped rows and row intervals, the two-sided search, numbering, and what the other promises determine.
+pub mod Settled
+pub mod RowPasses
+pub mod RelaxedRow
+pub mod Sweeps
+pub mod Count
 pub mod Consecutive
 pub mod Intervals
 pub mod Skipping

@@ -14,7 +14,7 @@ use Rattle.walkgraph.proofs.Boxes.{in-box, box-in}
 use Rattle.walkgraph.proofs.WindowEdges.{inside-window, inside-true, true-inside}
 use Rattle.walkgraph.proofs.Walks.{first-allowed}
 use Rattle.walkgraph.proofs.Values.{Capped}
-use Rattle.walkgraph.proofs.Sweeps.{Walkable, Allowed, PaddingShut}
+use Rattle.walkgraph.proofs.SweepSteps.{Walkable, Allowed, PaddingShut}
 
 -- a walk is carried by two maps of columns and rows that carry cells and steps
 pub map-walk : {O K O′ K′ : ℕ → ℕ → Type 0} (f g : ℕ → ℕ) →

@@ -11,9 +11,9 @@ use lib.Seq.{ext-getD}
 use Rattle.walkgraph.specs.Lanes.{unreachable}
 use Rattle.walkgraph.specs.Sweep.{PaddedWindow, Direction, down, up, readRow, written, relaxed}
 use Rattle.walkgraph.proofs.Tests.{by-cases}
-use Rattle.walkgraph.proofs.RelaxedRow.{RowQuiet}
-use Rattle.walkgraph.proofs.Sweeps.{PaddingShut, written-in}
-use Rattle.walkgraph.proofs.RelaxedRow as R
+use Rattle.walklaws.proofs.RelaxedRow.{RowQuiet}
+use Rattle.walkgraph.proofs.SweepSteps.{PaddingShut, written-in}
+use Rattle.walklaws.proofs.RelaxedRow as R
 
 module _ (m : PaddedWindow) (p : PaddingShut m) (y z : ℕ) (feed old : List ℕ) (top : (x : ℕ) → readRow m old x ≤ unreachable (m .reach)) where
   pub relaxed-top : (x : ℕ) → readRow m (relaxed m y z feed old) x ≤ unreachable (m .reach)

@@ -1,75 +1,24 @@
 -- Whole sweeps: values fall and stay real, each sweep leaves no step of its direction that would lower a value, and a sweep over values that none of its steps
 -- lowers changes nothing.
 use mathlib.Core.Path.{_≡_, refl, sym, _∙_, ap, subst}
-use mathlib.Core.Logic.{_⊎_, inl, inr, ⊎-elim}
+use mathlib.Core.Logic.{⊎-elim}
 use mathlib.Core.List.{List, []}
 use Prim.Native.Nat.{ℕ, zero, suc, _+_, _*_, _-_, _≤_, _<_}
 use native.Mathlib.Decide.{decLe}
 use native.Mathlib.Omega.{arith}
 use lib.ListN.{getD, List·getD-eq-default}
-use lib.Dec.{T}
 use Rattle.walkgraph.specs.Lists.{tabulate, grow, grown}
 use Rattle.walkgraph.specs.Lanes.{cap, unreachable}
 use Rattle.walkgraph.specs.Walk.{distance, Step, straight, diagonal, Walk, here, on}
 use Rattle.walkgraph.specs.Field.{WalkCosts}
-use Rattle.walkgraph.specs.Sweep.{PaddedWindow, Direction, down, up, readRow, valueAt, written, place, corner, relaxed, swept, sweep, turn, direction, sweeps, sweptStep}
-use Rattle.walkgraph.proofs.Tests.{and-left, and-right, and-pair, decT, by-cases}
+use Rattle.walkgraph.specs.Sweep.{PaddedWindow, Direction, readRow, valueAt, written, place, relaxed, swept, sweep, turn, direction, sweeps, sweptStep}
+use Rattle.walkgraph.proofs.Tests.{decT, by-cases}
 use Rattle.walkgraph.proofs.Lists.{getD-tabulate, length-tabulate, getD-grow}
+use Rattle.walkgraph.proofs.SweepSteps.{Walkable, Allowed, PaddingShut, written-in, corner-sides, corner-open, place-place, place-le, place-next, place-pred, Level, same, next, distance-none, distance-one, one-of-two, level}
 use Rattle.walkgraph.proofs.Walks.{steps-reach, extend, last-allowed}
 use Rattle.walkgraph.proofs.Values.{Capped}
-use Rattle.walkgraph.proofs.Settled.{Settled, settled-field}
-use Rattle.walkgraph.proofs.RelaxedRow as R
-
--- the walk graph of a padded window
-abbrev pub Walkable : PaddedWindow → ℕ → ℕ → Type 0
-Walkable m x y = T (m .walkable x y)
-
-abbrev pub Allowed : PaddedWindow → ℕ → ℕ → Type 0
-Allowed m x y = T (written m x y)
-
--- the padding is not walkable
-unfoldable pub PaddingShut : PaddedWindow → Type 0
-PaddingShut m = (x y : ℕ) → T (m .walkable x y) → (1 ≤ x) × (x ≤ m .width) × (1 ≤ y) × (y ≤ m .height)
-
-pub written-in : (m : PaddedWindow) → PaddingShut m → (x y : ℕ) → Allowed m x y → (1 ≤ x) × (x ≤ m .width) × (1 ≤ y) × (y ≤ m .height)
-unfolding written PaddingShut
-written-in m p x y t = p x y (and-left (m .walkable x y) (m .inside x y) t)
-
--- the corner rule of the sweeps is that of the walk graph
-corner-sides : (m : PaddedWindow) (x y u z : ℕ) → T (corner m x y u z) → Walkable m u y × Walkable m x z
-unfolding corner
-corner-sides m x y u z c = (and-left (m .walkable u y) (m .walkable x z) c, and-right (m .walkable u y) (m .walkable x z) c)
-
-corner-open : (m : PaddedWindow) (x y u z : ℕ) → Walkable m u y → Walkable m x z → T (corner m x y u z)
-unfolding corner
-corner-open m x y u z a b = and-pair (m .walkable u y) (m .walkable x z) a b
-
--- ---- places
-pub place-place : (m : PaddedWindow) (d : Direction) (y : ℕ) → y ≤ m .height + 1 → place m d (place m d y) ≡ y
-unfolding place
-place-place m down y h = refl
-place-place m up y h = omega arith
-
-pub place-le : (m : PaddedWindow) (d : Direction) (y : ℕ) → y ≤ m .height + 1 → place m d y ≤ m .height + 1
-unfolding place
-place-le m down y h = h
-place-le m up y h = omega arith
-
-place-next : (m : PaddedWindow) (d : Direction) (i : ℕ) → i ≤ m .height → distance (place m d i) (place m d (suc i)) ≡ 1
-unfolding place distance
-place-next m down i h = omega arith
-place-next m up i h = omega arith
-
--- a cell of the window is at a place after the padding
-place-pred : (m : PaddedWindow) (d : Direction) (y : ℕ) → 1 ≤ y → y ≤ m .height → (j : ℕ) × (place m d y ≡ suc j) × (j < m .height)
-unfolding place
-place-pred m down y h k = (y - 1, omega arith, omega arith)
-place-pred m up y h k = (m .height - y, omega arith, omega arith)
-
--- the rows between which a sweep's steps go: along a row, or to the next row of the sweep
-pub data Level (m : PaddedWindow) (d : Direction) (y v : ℕ) : Type 0 where
-  same : v ≡ y → Level m d y v
-  next : place m d v ≡ suc (place m d y) → Level m d y v
+use Rattle.walklaws.proofs.Settled.{Settled, settled-field}
+use Rattle.walklaws.proofs.RelaxedRow as R
 
 -- no step of the sweep lowers a value
 pub record Closed (m : PaddedWindow) (d : Direction) (t : List (List ℕ)) : Type 0 where
@@ -82,19 +31,6 @@ pub data View (Walkable : ℕ → ℕ → Type 0) (x y u v k : ℕ) : Type 0 whe
   upright : u ≡ x → distance y v ≡ 1 → k ≡ 500 → View Walkable x y u v k
   west : u ≡ suc x → distance y v ≡ 1 → k ≡ 707 → Walkable x v → Walkable u y → View Walkable x y u v k
   east : x ≡ suc u → distance y v ≡ 1 → k ≡ 707 → Walkable x v → Walkable u y → View Walkable x y u v k
-
--- two rows or columns with no distance are one, at a distance of 1 one is the next of the other, and of two distances that make 1 one is 0
-distance-none : (a b : ℕ) → distance a b ≡ 0 → b ≡ a
-unfolding distance
-distance-none a b e = omega arith
-
-distance-one : (a b : ℕ) → distance a b ≡ 1 → (b ≡ suc a) ⊎ (a ≡ suc b)
-unfolding distance
-distance-one a b e = by-cases (decLe a b) (λ h. inl (omega arith)) (λ h. inr (omega arith))
-
-one-of-two : (p q : ℕ) → p + q ≡ 1 → ((p ≡ 1) × (q ≡ 0)) ⊎ ((p ≡ 0) × (q ≡ 1))
-one-of-two zero q e = inr (refl, omega arith)
-one-of-two (suc p) q e = inl (omega arith, omega arith)
 
 pub view : {Walkable : ℕ → ℕ → Type 0} {x y u v k : ℕ} → Step Walkable x y u v k → View Walkable x y u v k
 view {x = x} {y = y} {u = u} {v = v} (straight e) =
@@ -346,31 +282,12 @@ twice-is zero = refl
 twice-is (suc j) = omega (arith, twice-is j)
 
 module _ (m : PaddedWindow) (p : PaddingShut m) (Source : ℕ → ℕ → Type 0) where
-  -- each step goes with one of the two directions
-  next-level : (d : Direction) (y v : ℕ) → v ≤ m .height → v ≡ suc y → Level m d y v ⊎ Level m (turn d) y v
-  unfolding place turn
-  next-level down y v h e = inl (next e)
-  next-level up y v h e = inr (next e)
-
-  back-level : (d : Direction) (y v : ℕ) → y ≤ m .height → y ≡ suc v → Level m d y v ⊎ Level m (turn d) y v
-  unfolding place turn
-  back-level down y v h e = inr (next (omega arith))
-  back-level up y v h e = inl (next (omega arith))
-
-  rows-level : (d : Direction) (y v : ℕ) → y ≤ m .height → v ≤ m .height → distance y v ≡ 1 → Level m d y v ⊎ Level m (turn d) y v
-  rows-level d y v h k e = ⊎-elim (next-level d y v k) (back-level d y v h) (distance-one y v e)
-
-  level : {x y u v k : ℕ} → Allowed m x y → Allowed m u v → Step (Walkable m) x y u v k → (d : Direction) → Level m d y v ⊎ Level m (turn d) y v
-  level {x} {y} {u} {v} a b (straight e) d =
-      ⊎-elim (λ i. inl (same (distance-none y v (i .1)))) (λ i. rows-level d y v (written-in m p x y a .3) (written-in m p u v b .3) (i .1)) (one-of-two (distance x u) (distance y v) e)
-  level {x} {y} {u} {v} a b (diagonal e f o q) d = rows-level d y v (written-in m p x y a .3) (written-in m p u v b .3) f
-
   -- ---- values that no step lowers are the field
   both-settled : {t : List (List ℕ)} (d : Direction) → Sound m Source t → Closed m d t → Closed m (turn d) t → Settled (m .reach) (Walkable m) (Allowed m) Source (valueAt m t)
   both-settled {t} d g f h = record { top = g .top; start = g .start; real = g .real; still = still }
     where
       still : {x y u w k : ℕ} → Allowed m x y → Allowed m u w → Step (Walkable m) x y u w k → valueAt m t u w ≤ valueAt m t x y + k
-      still a b s = ⊎-elim (λ l. f .edge a b s l) (λ l. h .edge a b s l) (level a b s d)
+      still a b s = ⊎-elim (λ l. f .edge a b s l) (λ l. h .edge a b s l) (level m p a b s d)
 
   pub field-closed : {t : List (List ℕ)} → Sound m Source t → ((x y : ℕ) → Capped (m .reach) (WalkCosts (Walkable m) (Allowed m) Source x y) (valueAt m t x y)) → (d : Direction) → Closed m d t
   field-closed {t} g c d = record { edge = edge }
@@ -412,7 +329,7 @@ module _ (m : PaddedWindow) (p : PaddingShut m) (Source : ℕ → ℕ → Type 0
         ⊎-elim
         (λ l. omega (arith, sweeps-closed n .edge a b s l, sweeps-fall n x y, sweeps-fall (suc n) u v))
         (λ l. omega (arith, sweeps-closed (suc n) .edge a b s l, sweeps-fall n x y, sweeps-fall (suc n) x y))
-        (level a b s (direction n))
+        (level m p a b s (direction n))
 
     settle : {a b x y n c : ℕ} → Source a b → Walk (Walkable m) (Allowed m) a b x y n c → (j : ℕ) → n ≤ j → valueAt m (sweeps m t (twice j)) x y ≤ c
     unfolding twice

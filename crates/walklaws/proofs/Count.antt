@@ -7,27 +7,19 @@ use native.Mathlib.Omega.{arith}
 use native.Mathlib.Decide.{decLe}
 use lib.Dec.{T}
 use lib.ListN.{List·getD-eq-default}
 use Rattle.walkgraph.specs.Lists.{tabulate}
 use Rattle.walkgraph.specs.Lanes.{cap, unreachable}
 use Rattle.walkgraph.specs.Walk.{here}
 use Rattle.walkgraph.specs.Field.{WalkCosts}
-use Rattle.walkgraph.specs.Sweep.{PaddedWindow, readRow, valueAt, written, sweeps, Quiet, IsCount, startTable, starts}
-use Rattle.walkgraph.proofs.Tests.{cond-ind, cond-true, and-left, and-right, and-pair, by-cases}
+use Rattle.walkgraph.specs.Sweep.{PaddedWindow, readRow, valueAt, sweeps, Quiet, IsCount, startTable, starts}
+use Rattle.walkgraph.proofs.Tests.{cond-ind, cond-true, by-cases}
 use Rattle.walkgraph.proofs.Lists.{getD-tabulate, length-tabulate}
 use Rattle.walkgraph.proofs.Values.{Capped}
-use Rattle.walkgraph.proofs.Sweeps.{Walkable, Allowed, PaddingShut, written-in, Sound, quiet-field, quiet-last, twice, twice-is}
+use Rattle.walkgraph.proofs.SweepSteps.{Walkable, Allowed, PaddingShut, written-in, starts-written, written-starts}
+use Rattle.walklaws.proofs.Sweeps.{Sound, quiet-field, quiet-last, twice, twice-is}
 
 -- ---- the start is sound
 module _ (m : PaddedWindow) (p : PaddingShut m) (source : ℕ → ℕ → Bool) where
-  -- a lane starts at its sources that are written, and nowhere else
-  pub starts-written : (x y : ℕ) → T (starts m source x y) → Allowed m x y × T (source x y)
-  unfolding starts
-  starts-written x y t = (and-left (written m x y) (source x y) t, and-right (written m x y) (source x y) t)
-
-  written-starts : (x y : ℕ) → Allowed m x y → T (source x y) → T (starts m source x y)
-  unfolding starts
-  written-starts x y o f = and-pair (written m x y) (source x y) o f
-
   abbrev pub startValue : ℕ → ℕ → ℕ
   startValue y x = cond (starts m source x y) 0 (unreachable (m .reach))
 
@@ -61,12 +53,12 @@ module _ (m : PaddedWindow) (p : PaddingShut m) (source : ℕ → ℕ → Bool) 
         real = λ x y.
             started-ind (λ v. v ≤ cap (m .reach) → WalkCosts (Walkable m) (Allowed m) (λ x y. T (source x y)) x y v) x y
             (cond-ind (λ v. v ≤ cap (m .reach) → WalkCosts (Walkable m) (Allowed m) (λ x y. T (source x y)) x y v) (starts m source x y)
-            (λ t h. let s = starts-written x y t in record { a = x; b = y; steps = 0; source = s .1; walk = here (s .0) })
+            (λ t h. let s = starts-written m source x y t in record { a = x; b = y; steps = 0; source = s .1; walk = here (s .0) })
             (λ t h. absurd (omega arith)))
             (λ h. absurd (omega arith));
         start = λ x y f o.
             let i = written-in m p x y o in
-            started-at x y (omega arith) (omega arith) ∙ cond-true (starts m source x y) 0 (unreachable (m .reach)) (written-starts x y o f);
+            started-at x y (omega arith) (omega arith) ∙ cond-true (starts m source x y) 0 (unreachable (m .reach)) (written-starts m source x y o f);
       }
 
 -- ---- the count is at most 2 x reach + 1
@@ -78,13 +70,6 @@ count-most m o p Source start g n k c =
     let f : suc (twice (m .reach)) - 1 ≡ twice (m .reach) = omega arith in
     by-cases (decLe k (2 * m .reach + 1)) (λ h. h)
     (λ h. absurd (c .loud (suc (twice (m .reach))) (omega arith) (omega arith) (λ l i x y. rw f (quiet-last m p (Source l) (start l) (g l) x y))))
-
--- and unique
-pub count-one : (m : PaddedWindow) (start : ℕ → List (List ℕ)) (n k j : ℕ) → IsCount m start n k → IsCount m start n j → k ≡ j
-count-one m start n k j c d =
-    by-cases (decLe k j)
-    (λ h. by-cases (decLe j k) (λ i. omega arith) (λ i. absurd (d .loud k (c .low) (omega arith) (c .quiet))))
-    (λ h. absurd (c .loud j (d .low) (omega arith) (d .quiet)))
 
 -- after the counted sweeps each lane is settled
 pub count-field : (m : PaddedWindow) → PaddingShut m → (Source : ℕ → ℕ → ℕ → Type 0) (start : ℕ → List (List ℕ)) → ((l : ℕ) → Sound m (Source l) (start l)) → (n k : ℕ) →

@@ -6,11 +6,11 @@ use Prim.Native.Nat.{ℕ, zero, suc, _+_, _-_, _≤_, _<_}
 use native.Mathlib.Omega.{arith}
 use lib.ListN.{length, List·getD-eq-default}
 use lib.Dec.{T}
 use Rattle.walkgraph.specs.Lists.{grown, grow}
 use Rattle.walkgraph.specs.Lanes.{cap, unreachable}
 use Rattle.walkgraph.specs.Sweep.{rightStep, rightward, leftStep, leftward, PaddedWindow, readRow, written, corner, cornerWest, cornerEast, relaxed}
 use Rattle.walkgraph.proofs.Lists.{getD-tabulate, length-tabulate, getD-grow}
-use Rattle.walkgraph.proofs.RowPasses as Passes
+use Rattle.walklaws.proofs.RowPasses as Passes
 
 -- the pass to the left reads only the columns up to the right padding
 leftward-same : (width : ℕ) (ok : ℕ → Bool) (f g : ℕ → ℕ) → ((x : ℕ) → x ≤ width + 1 → f x ≡ g x) → (d : ℕ) → d ≤ width + 1 → leftward width ok f d ≡ leftward width ok g d
