@@ -1,6 +1,6 @@
 // The public call: access of a rectangle, judged 1, 4, 7.
+use badgrid;
 use countanswer::Answer;
-use judge::grid;
 use ringanswer;
 use rings::ring;
 use rings::ring::Ring;
@@ -21,7 +21,7 @@ pub fn access(
 ) -> Answer
     ensures { λ r. ⌜ AccessPromise width height (now (cells .entry)) (corners left top right bottom) (now (out .entry)) (now (out .exit)) (listedOf r) ⌝ }
 {
-    if !grid::grid_ok(width, height, cells) {
+    if !badgrid::grid_ok(width, height, cells) {
         return Answer::Refused {
             number: 1,
             place: 0,

@@ -1,5 +1,5 @@
 // The call's refusals, 1, 3, 4, 7: from lengths and shared slices alone.
-use judge::grid;
+use badgrid;
 use judge::numbers;
 use judge::verdict::Verdict;
 use listspromise;
@@ -20,7 +20,7 @@ pub fn judged(
 ) -> Verdict
     ensures { λ r. ⌜ verdictOf r ≡ listsVerdict width height (now (cells .entry)) (now (rectangles .entry)) indices ends ⌝ }
 {
-    if !grid::grid_ok(width, height, cells) {
+    if !badgrid::grid_ok(width, height, cells) {
         return Verdict::Refused {
             number: 1,
             place: 0,

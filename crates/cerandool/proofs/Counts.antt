@@ -15,7 +15,7 @@ use Rattle.walkgraph.specs.AccessPromise as access
 use Rattle.walkgraph.specs.FieldsPromise.{JoinInput, JoinLent, fieldsVerdict, AnswersAre, FieldsPromise, joins}
 use Rattle.walkgraph.proofs.Tests.{by-cases}
 use Rattle.walkgraph.proofs.Numbering.{seek}
-use Rattle.judge.proofs.Accepted.{grid}
+use Rattle.badgrid.proofs.Accepted.{grid}
 use Rattle.judge.proofs.Judging.{accepted-parts}
 use Rattle.manyrectangles.specs.Lent.{ListsLent}
 use Rattle.listspromise.specs.AccessListsPromise.{AccessListsPromise}

@@ -13,7 +13,7 @@ use Rattle.walkgraph.specs.Reading.{noWindow}
 use Rattle.walkgraph.specs.Refusals.{FieldInput, callOf}
 use Rattle.walkgraph.specs.Promise.{refusal, made, FieldPromise, refuses, nothing, makes}
 use Rattle.cells.specs.Boxes.{reach}
-use Rattle.judge.proofs.Grids.{entry-least}
+use Rattle.badgrid.proofs.Grids.{entry-least}
 use Rattle.window.specs.declared.record.Window.{Window}
 use Rattle.window.specs.Windows.{asRecord}
 use Rattle.window.specs.Fills.{AreBits}

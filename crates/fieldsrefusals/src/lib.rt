@@ -1,6 +1,6 @@
 // The fields call's refusals, 1, 3, 8, 7: from lengths and shared slices alone.
 use accessrefusal;
-use judge::grid;
+use badgrid;
 use judge::verdict::Verdict;
 ghost use mathlib.Core.Path.{_≡_};
 ghost use mathlib.Core.Bool.{not};
@@ -47,7 +47,7 @@ pub fn judged(
 ) -> Verdict
     ensures { λ r. ⌜ verdictOf r ≡ joinVerdict width height (now (cells .entry)) (now (indices .entry)) (now (ends .entry)) (lengthsOf lent) ⌝ }
 {
-    if !grid::grid_ok(width, height, cells) {
+    if !badgrid::grid_ok(width, height, cells) {
         return Verdict::Refused {
             number: 1,
             place: 0,

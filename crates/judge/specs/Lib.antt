@@ -1,3 +1,2 @@
--- The code's verdict as document 01's, and the limits of a grid.
+-- The code's verdict as document 01's.
 pub mod Verdicts
-pub mod Grids

@@ -11,7 +11,8 @@ use lib.IntN.{ℤ}
 use Rattle.walkgraph.specs.Lists.{tabulate}
 use Rattle.walkgraph.specs.Refusals.{badGrid}
 use Rattle.walkgraph.proofs.Lists.{length-tabulate, getD-tabulate}
-use Rattle.judge.proofs.Accepted.{grid, fours}
+use Rattle.badgrid.proofs.Accepted.{grid}
+use Rattle.judge.proofs.Accepted.{fours}
 use Rattle.ringlists.specs.Places.{inOrder}
 use Rattle.ringlists.proofs.Places.{in-order-more, in-order-up, in-order-most}
 use Rattle.manyrectangles.specs.AllCells.{cellsOf, allCells, endsOf}

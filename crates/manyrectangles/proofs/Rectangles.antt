@@ -16,7 +16,7 @@ use Rattle.cells.specs.Boxes.{boxOf}
 use Rattle.cells.proofs.Bools.{clash}
 use Rattle.rings.specs.Rings.{Accepted}
 use Rattle.rings.proofs.Search.{all-good}
-use Rattle.judge.proofs.Accepted.{grid}
+use Rattle.badgrid.proofs.Accepted.{grid}
 use Rattle.ringruns.specs.Runs.{OnMap}
 use Rattle.ringrows.specs.Rows.{ringPlaces}
 use Rattle.ringrows.proofs.OfResources.{found-on-map, found-access}

@@ -12,7 +12,8 @@ use Rattle.walkgraph.specs.Buffers.{Lent}
 use Rattle.walkgraph.specs.Refusals.{FieldInput, callOf, shortBuffers, badResource, firstBadResource, badSpan, Verdict, accepted, refused, judge, fieldVerdict}
 use Rattle.walkgraph.proofs.Lists.{first-from}
 use Rattle.cells.proofs.Bools.{neither}
-use Rattle.judge.proofs.Accepted.{Grid, grid, lanes, Fours, fours, Span, span}
+use Rattle.badgrid.proofs.Accepted.{Grid, grid}
+use Rattle.judge.proofs.Accepted.{lanes, Fours, fours, Span, span}
 use Rattle.judge.proofs.Judging.{Before, no-tests, one-test, accepted-parts}
 use Rattle.refusals.specs.Verdicts.{mapTests, restTests}
 

@@ -12,7 +12,7 @@ use Rattle.walkgraph.specs.Buffers as buffers
 use Rattle.walkgraph.specs.Refusals.{badSpan, FieldInput, Verdict, accepted, refused, fieldVerdict}
 use Rattle.cells.specs.Boxes.{reach, boxOf}
 use Rattle.rings.specs.Rings.{AllRings}
-use Rattle.greatestbyte.specs.Greatest.{greatest}
+use Rattle.badgrid.specs.Greatest.{greatest}
 use Rattle.targetbox.specs.TargetBox.{cellsOf}
 use Rattle.window.specs.declared.record.Window.{Window}
 use Rattle.lane.specs.Levels.{LaneCount}

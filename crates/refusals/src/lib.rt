@@ -1,5 +1,5 @@
 // The field call's refusals 1 to 6, in the table's order: from lengths and shared slices alone.
-use judge::grid;
+use badgrid;
 use judge::numbers;
 use judge::verdict::Verdict;
 use rings::ring;
@@ -15,7 +15,7 @@ ghost use Rattle.refusals.specs.Verdicts.{mapTests, restTests};
 pub fn judge_map(width: u32, height: u32, cells: &[u8], lanes: u32, resources: &[i32]) -> Verdict
     ensures { λ r. ⌜ verdictOf r ≡ mapTests width height (now (cells .entry)) lanes (now (resources .entry)) accepted ⌝ }
 {
-    if !grid::grid_ok(width, height, cells) {
+    if !badgrid::grid_ok(width, height, cells) {
         return Verdict::Refused {
             number: 1,
             place: 0,

@@ -14,7 +14,7 @@ use Rattle.cells.specs.Boxes.{boxOf}
 use Rattle.rings.specs.Rings.{Accepted}
 use Rattle.rings.proofs.Sides.{on-map}
 use Rattle.rings.proofs.Sources.{ring-in-map}
-use Rattle.judge.proofs.Accepted.{grid}
+use Rattle.badgrid.proofs.Accepted.{grid}
 use Rattle.ringruns.specs.Runs.{OnMap}
 use Rattle.ringrows.specs.Rows.{ringPlaces}
 use Rattle.ringrows.proofs.AccessRuns.{ring-accessed}

@@ -12,8 +12,8 @@ use Rattle.walkgraph.specs.Buffers.{UsedPart}
 use Rattle.walkgraph.specs.Refusals.{badGrid, badAccess, shortJoin, joinVerdict, accepted}
 use Rattle.walkgraph.specs.FieldsPromise.{JoinInput, JoinLent, lengthsOf, fieldsVerdict, FieldsMade}
 use Rattle.cells.proofs.Bools.{both}
-use Rattle.judge.proofs.Grids.{entry-least}
-use Rattle.judge.proofs.Accepted.{Grid, grid}
+use Rattle.badgrid.proofs.Grids.{entry-least}
+use Rattle.badgrid.proofs.Accepted.{Grid, grid}
 use Rattle.judge.proofs.Judging.{accepted-parts}
 use Rattle.accessrefusal.proofs.Accepted.{AccessLists, lists}
 use Rattle.seeds.specs.Sown.{Sowable}

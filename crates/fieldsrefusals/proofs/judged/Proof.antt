@@ -8,7 +8,7 @@ use borrow.Author.Tests.{lt-ltb, le-ltb}
 use Rattle.walkgraph.specs.Refusals.{badGrid, badAccess, shortJoin, joinVerdict}
 use Rattle.judge.specs.Verdicts.{verdictOf}
 use Rattle.judge.proofs.Judging.{refuses, passes, found-bad, found-good}
-use Rattle.judge.proofs.Accepted.{grid}
+use Rattle.badgrid.proofs.Accepted.{grid}
 use Rattle.fieldsrefusals.specs.Lengths.{lengthsOf}
 use Rattle.fieldsrefusals.proofs.judged.Statement.{statement}
 use Rattle.fieldsrefusals.proofs.judged.Tie as tie

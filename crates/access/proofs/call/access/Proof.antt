@@ -7,7 +7,7 @@ use mir.ValLaws.{toZ-ofZ}
 use Rattle.walkgraph.specs.Painting.{Rectangle}
 use Rattle.walkgraph.specs.Refusals.{badGrid}
 use Rattle.rings.specs.Rings.{corners, RingOf, Accepted}
-use Rattle.judge.proofs.Accepted.{grid}
+use Rattle.badgrid.proofs.Accepted.{grid}
 use Rattle.judge.proofs.Judging.{found-bad, found-good}
 use Rattle.countanswer.specs.Answers.{listedOf}
 use Rattle.ringrows.proofs.OfResources.{found-on-map}

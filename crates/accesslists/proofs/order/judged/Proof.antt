@@ -8,7 +8,8 @@ use borrow.Author.Needs.{needs}
 use Rattle.walkgraph.specs.Refusals.{badGrid, badFours}
 use Rattle.judge.specs.Verdicts.{verdictOf}
 use Rattle.judge.proofs.Judging.{found-bad, found-good}
-use Rattle.judge.proofs.Accepted.{grid, fours}
+use Rattle.badgrid.proofs.Accepted.{grid}
+use Rattle.judge.proofs.Accepted.{fours}
 use Rattle.manyrectangles.specs.AllCells.{allCells}
 use Rattle.manyrectangles.specs.Listing.{Judged}
 use Rattle.listspromise.specs.AccessListsPromise.{shortLists}

@@ -1,8 +1,8 @@
--- `judge::grid::size_ok`: its two tests are the limits.
+-- `badgrid::size_ok`: its two tests are the limits.
 use borrow.Author.Tests.{le-leb, lt-leb}
-use Rattle.judge.specs.Grids.{inLimits}
-use Rattle.judge.proofs.grid.size_ok.Statement.{statement}
-use Rattle.judge.proofs.grid.size_ok.Tie as tie
+use Rattle.badgrid.specs.Grids.{inLimits}
+use Rattle.badgrid.proofs.size_ok.Statement.{statement}
+use Rattle.badgrid.proofs.size_ok.Tie as tie
 
 returns : tie.Need-returns
 unfolding inLimits

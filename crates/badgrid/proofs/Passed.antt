@@ -6,7 +6,7 @@ use native.Mathlib.Omega.{arith}
 use native.Mathlib.Numerals.{add-one}
 use lib.ListN.{length, getD, drop, drop-of-length-le}
 use lib.Seq.{drop-cons}
-use Rattle.greatestbyte.specs.Greatest.{greatest}
+use Rattle.badgrid.specs.Greatest.{greatest}
 
 -- `high` is the greatest of the first k bytes: it and the others make the greatest of all
 module _ (cells : List ℕ) (high k : ℕ) where

@@ -1,13 +1,13 @@
--- `greatestbyte::greatest`: `high` and the bytes that are left have the greatest byte of all.
+-- `badgrid::greatest`: `high` and the bytes that are left have the greatest byte of all.
 use mathlib.Core.Path.{_≡_, sym, _∙_}
 use Prim.Native.Nat.{_-_, _≤_, max}
 use borrow.Author.Needs.{needs}
 use native.Mathlib.Omega.{arith}
 use lib.ListN.{length, drop}
-use Rattle.greatestbyte.specs.Greatest.{greatest}
-use Rattle.greatestbyte.proofs.Passed.{one-more, all-passed}
-use Rattle.greatestbyte.proofs.greatest.Statement.{statement}
-use Rattle.greatestbyte.proofs.greatest.Tie as tie
+use Rattle.badgrid.specs.Greatest.{greatest}
+use Rattle.badgrid.proofs.Passed.{one-more, all-passed}
+use Rattle.badgrid.proofs.greatest.Statement.{statement}
+use Rattle.badgrid.proofs.greatest.Tie as tie
 
 abbrev Inv-loop : tie.InvT-loop
 Inv-loop cells high₀ k₀ k-end high k = (k ≤ length cells) × (max high (greatest (drop k cells)) ≡ greatest cells)

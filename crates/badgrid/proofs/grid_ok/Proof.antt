@@ -1,15 +1,15 @@
--- `judge::grid::grid_ok`: its four tests are those of a grid.
+-- `badgrid::grid_ok`: its four tests are those of a grid.
 use mathlib.Core.Path.{_≡_, sym, _∙_}
 use mathlib.Core.Bool.{true}
 use borrow.Author.Needs.{needs}
 use borrow.Author.Tests.{not-true, not-false, eq-eqb, ne-eqb}
 use native.Mathlib.Nat.{mul-le-mul}
 use native.Mathlib.Omega.{arith}
-use Rattle.judge.specs.Grids.{inLimits}
-use Rattle.judge.proofs.Accepted.{size}
-use Rattle.judge.proofs.Grids.{good-grid}
-use Rattle.judge.proofs.grid.grid_ok.Statement.{statement}
-use Rattle.judge.proofs.grid.grid_ok.Tie as tie
+use Rattle.badgrid.specs.Grids.{inLimits}
+use Rattle.badgrid.proofs.Accepted.{size}
+use Rattle.badgrid.proofs.Grids.{good-grid}
+use Rattle.badgrid.proofs.grid_ok.Statement.{statement}
+use Rattle.badgrid.proofs.grid_ok.Tie as tie
 
 size-ok-requires : tie.Need-size-ok-requires
 size-ok-requires c κs = search needs

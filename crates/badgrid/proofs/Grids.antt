@@ -10,8 +10,8 @@ use lib.Dec.{leb, eqb}
 use borrow.Author.Tests.{le-leb, lt-leb}
 use Rattle.walkgraph.specs.Refusals.{badGrid, all}
 use Rattle.walkgraph.proofs.Tests.{by-cases, leb-eq}
-use Rattle.greatestbyte.specs.Greatest.{greatest}
-use Rattle.judge.specs.Grids.{inLimits}
+use Rattle.badgrid.specs.Greatest.{greatest}
+use Rattle.badgrid.specs.Grids.{inLimits}
 
 -- no byte is above it
 pub entry-least : (cells : List ℕ) (k : ℕ) → getD cells k 0 ≤ greatest cells

@@ -1,2 +1,0 @@
--- The greatest of many bytes.
-pub mod Greatest
