@@ -12,7 +12,7 @@ use lib.ListN.{length, get_or, length-append, get_or-append}
 use lib.Seq.{get_or-append-add}
 use lib.IntN.{ℤ}
 use lib.Dec.{T, ltb, eqb, ltb→lt}
-use borrow.Author.Tests.{lt-ltb, le-leb, eq_eqb}
+use borrow.Author.Tests.{lt-ltb, le-leb, eq-eqb}
 use Rattle.walkgraph.specs.Lists.{tabulate}
 use Rattle.walkgraph.specs.Map.{walkable}
 use Rattle.walkgraph.specs.Painting.{rectangle}
@@ -91,7 +91,7 @@ module _ (w h : ℕ) (cells : List ℕ) (l : List ℤ) where
   not_refused n =
       rw (
         ends_rise n,
-        eq_eqb (last_end 0 (ends_of w h cells l n)) (length (all_cells w h cells l n)) (last_is n),
+        eq-eqb (last_end 0 (ends_of w h cells l n)) (length (all_cells w h cells l n)) (last_is n),
         all_members (λ i. ltb i (w * h)) (all_cells w h cells l n) (λ i m. lt-ltb i (w * h) (all_below n i m)),
       )
 

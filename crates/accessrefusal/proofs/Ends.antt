@@ -1,6 +1,6 @@
 -- The ends of the lists of access cells and their indices, as loops pass them, and what is known where none falls.
 use mathlib.Core.Path.{◌≡◌}
-use mathlib.Core.Bool.{Bool, true, false, not, ◌&&◌, not_not}
+use mathlib.Core.Bool.{Bool, true, false, not, ◌&&◌, not-not}
 use mathlib.Core.List.{List, [], ◌∷◌}
 use Prim.Native.Nat.{ℕ, zero, suc, ◌+◌, ◌≤◌, ◌<◌}
 use native.Mathlib.Numerals.{add-one}
@@ -8,7 +8,7 @@ use native.Mathlib.Omega.{arith}
 use lib.ListN.{length, get_or, drop, drop_of_length-le}
 use lib.Seq.{drop-cons}
 use lib.Dec.{leb, ltb, eqb}
-use borrow.Author.Tests.{leb_true, le-leb, lt-leb}
+use borrow.Author.Tests.{leb-true, le-leb, lt-leb}
 use Rattle.walkgraph.specs.Refusals.{all, never_fall, last_end, bad_access}
 use Rattle.walkgraph.specs.FieldsPromise.{start_of}
 use Rattle.cells.proofs.Bools.{both}
@@ -56,7 +56,7 @@ module _ (test : ℕ → Bool) (l : List ℕ) (k : ℕ) where
 pub good_lists : (cells : ℕ) (indices ends : List ℕ) →
     not (bad_access cells indices ends) ≡ (never_fall 0 ends && eqb (last_end 0 ends) (length indices) && all (λ i. ltb i cells) indices)
 unfolding bad_access
-good_lists cells indices ends = not_not _
+good_lists cells indices ends = not-not _
 
 -- ---- entry by entry
 pub entry_all : (test : ℕ → Bool) (l : List ℕ) (k : ℕ) → k < length l → all test l ≡ true → test (get_or l k 0) ≡ true
@@ -68,7 +68,7 @@ entry_all test (a ∷ l) (suc k) h e = entry_all test l k (omega arith) (both (t
 -- ends that never fall: none is below the one before it, and none is above the last
 falls_parts : (before end : ℕ) (ends : List ℕ) → never_fall before (end ∷ ends) ≡ true → (before ≤ end) × (never_fall end ends ≡ true)
 unfolding never_fall
-falls_parts before end ends e = let t = both (leb before end) (never_fall end ends) e in (leb_true before end t.0, t.1)
+falls_parts before end ends e = let t = both (leb before end) (never_fall end ends) e in (leb-true before end t.0, t.1)
 
 last_most : (before : ℕ) (ends : List ℕ) → never_fall before ends ≡ true → before ≤ last_end before ends
 unfolding last_end

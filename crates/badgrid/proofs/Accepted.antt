@@ -5,7 +5,7 @@ use mathlib.Core.List.{List}
 use Prim.Native.Nat.{ℕ, ◌*◌, ◌≤◌}
 use lib.ListN.{length}
 use lib.Dec.{leb, eqb}
-use borrow.Author.Tests.{leb_true, eqb-true}
+use borrow.Author.Tests.{leb-true, eqb-true}
 use Rattle.walkgraph.specs.Refusals.{bad_grid}
 use Rattle.cells.proofs.Bools.{both}
 use Rattle.badgrid.specs.Greatest.{greatest}
@@ -19,7 +19,7 @@ pub record Size (size : ℕ) : Type 0 where
 
 pub size : (n : ℕ) → in_limits n ≡ true → Size n
 unfolding in_limits
-size n e = let t = both (leb 1 n) (leb n 1024) e in record { some = leb_true 1 n t.0; most = leb_true n 1024 t.1 }
+size n e = let t = both (leb 1 n) (leb n 1024) e in record { some = leb-true 1 n t.0; most = leb-true n 1024 t.1 }
 
 -- ---- a grid: one byte a cell
 pub record Grid (width height : ℕ) (cells : List ℕ) : Type 0 where
@@ -37,4 +37,4 @@ grid w h cells e =
     let t = both (sizes && long) bits all in
     let u = both sizes long t.0 in
     let v = both (in_limits w) (in_limits h) u.0 in
-    record { across = size w v.0; along = size h v.1; long = eqb-true (length cells) (w * h) u.1; bits = leb_true (greatest cells) 1 t.1 }
+    record { across = size w v.0; along = size h v.1; long = eqb-true (length cells) (w * h) u.1; bits = leb-true (greatest cells) 1 t.1 }

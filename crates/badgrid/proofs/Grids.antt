@@ -1,6 +1,6 @@
 -- The greatest byte of a grid, and the test of a grid as the code makes it.
 use mathlib.Core.Path.{◌≡◌, sym}
-use mathlib.Core.Bool.{not, ◌&&◌, and_assoc, not_not}
+use mathlib.Core.Bool.{not, ◌&&◌, and_assoc, not-not}
 use mathlib.Core.List.{List, [], ◌∷◌}
 use Prim.Native.Nat.{ℕ, zero, suc, ◌*◌, ◌≤◌, max}
 use native.Mathlib.Omega.{arith}
@@ -32,4 +32,4 @@ all_small n (b ∷ l) =
 -- the four tests of a grid, in the code's order
 pub good_grid : (w h : ℕ) (cells : List ℕ) → not (bad_grid w h cells) ≡ (in_limits w && in_limits h && eqb (length cells) (w * h) && leb (greatest cells) 1)
 unfolding bad_grid in_limits
-good_grid w h cells = rw (not_not, and_assoc (leb 1 w && leb w 1024) (leb 1 h) (leb h 1024), all_small 1 cells)
+good_grid w h cells = rw (not-not, and_assoc (leb 1 w && leb w 1024) (leb 1 h) (leb h 1024), all_small 1 cells)

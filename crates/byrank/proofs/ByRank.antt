@@ -3,7 +3,7 @@ use mathlib.Core.Path.{◌≡◌}
 use mathlib.Core.Logic.{◌≢◌}
 use Prim.Native.Nat.{ℕ, suc, ◌≤◌, ◌<◌}
 use native.Mathlib.Numerals.{add-one}
-use borrow.Author.Tests.{eq_eqb, ne_eqb, lt-ltb, le-ltb}
+use borrow.Author.Tests.{eq-eqb, ne_eqb, lt-ltb, le-ltb}
 use Rattle.byrank.specs.Ranks.{lower_root, raised_rank}
 
 pub lower_left : (left right rank other : ℕ) → rank < other → lower_root left right rank other ≡ left
@@ -16,7 +16,7 @@ lower_right left right rank other h = rw (le-ltb rank other h)
 
 pub raised_same : (low high : ℕ) → low ≡ high → raised_rank low high ≡ suc high
 unfolding raised_rank
-raised_same low high e = rw (eq_eqb low high e) (add-one high)
+raised_same low high e = rw (eq-eqb low high e) (add-one high)
 
 pub raised_other : (low high : ℕ) → low ≢ high → raised_rank low high ≡ high
 unfolding raised_rank

@@ -1,4 +1,6 @@
 // Joining two classes by the ranks of their roots.
+#![tactic(auto)]
+
 ghost use Rattle.std.specs.Prelude.{◌≡◌, ◌≤◌};
 ghost use Rattle.byrank.specs.Ranks.{lower_root, raised_rank};
 

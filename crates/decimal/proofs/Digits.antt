@@ -5,7 +5,7 @@ use mathlib.Core.List.{List, [], ◌∷◌, ◌++◌}
 use Prim.Native.Nat.{ℕ, zero, suc, ◌+◌, ◌*◌, ◌/◌, ◌%◌, ◌≤◌, ◌<◌}
 use native.Mathlib.Omega.{arith}
 use native.Mathlib.Decide.{dec_lt}
-use borrow.Author.Tests.{lt-ltb, le-ltb, le-leb, leb_true}
+use borrow.Author.Tests.{lt-ltb, le-ltb, le-leb, leb-true}
 use lib.Dec.{leb, ltb}
 use lib.ListN.{length, get_or, length-append, get_or-append}
 use Rattle.decimal.specs.Numbers.{is_digit, digits_in, digits_of}
@@ -24,7 +24,7 @@ both false b e = absurd (clash (sym e))
 
 pub digit_range : (byte : ℕ) → is_digit byte ≡ true → (48 ≤ byte) × (byte ≤ 57)
 unfolding is_digit
-digit_range byte h = let w = both (leb 48 byte) (leb byte 57) h in (leb_true 48 byte w.0, leb_true byte 57 w.1)
+digit_range byte h = let w = both (leb 48 byte) (leb byte 57) h in (leb-true 48 byte w.0, leb-true byte 57 w.1)
 
 pub in_range : (byte : ℕ) → 48 ≤ byte → byte ≤ 57 → is_digit byte ≡ true
 unfolding is_digit

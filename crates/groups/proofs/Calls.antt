@@ -7,7 +7,7 @@ use native.Mathlib.Nat.{mul_comm, mul-le-mul_right}
 use native.Mathlib.Omega.{arith}
 use lib.IntN.{ℤ}
 use lib.ListN.{length, replicate, length-replicate}
-use borrow.Author.Tests.{le-leb, le-ltb, eq_eqb}
+use borrow.Author.Tests.{le-leb, le-ltb, eq-eqb}
 use Rattle.walkgraph.specs.Refusals.{accepted, bad_fours, first_bad_resource, short_join}
 use Rattle.walkgraph.specs.AccessPromise as access
 use Rattle.walkgraph.specs.FieldsPromise.{JoinInput, JoinLent, lengths_of, fields_verdict, FieldsPromise}
@@ -28,7 +28,7 @@ fours_more : (most more : ℕ) (l : List ℤ) → most ≤ more → bad_fours mo
 unfolding bad_fours
 fours_more most more l h e =
     let f = fours most l e in
-    rw (eq_eqb _ 0 f.whole, le-leb (length l / 4) more (omega (arith, f.few)))
+    rw (eq-eqb _ 0 f.whole, le-leb (length l / 4) more (omega (arith, f.few)))
 
 -- as many resources as the room has cells, together
 area : (n size : ℕ) → n ≤ 8 → size ≤ 3600 → n * size ≤ 28800

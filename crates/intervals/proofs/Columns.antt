@@ -6,7 +6,7 @@ use native.Mathlib.Numerals.{add-one}
 use native.Mathlib.Decide.{dec_le, ℕ_discrete}
 use native.Mathlib.Omega.{arith}
 use lib.Dec.{T, ltb}
-use borrow.Author.Tests.{ltb-true, lt-ltb, not-true, not_false}
+use borrow.Author.Tests.{ltb-true, lt-ltb, not-true, not-false}
 use Rattle.walkgraph.specs.Lists.{first_from, past_last}
 use Rattle.walkgraph.specs.Window.{gap}
 use Rattle.walkgraph.proofs.Tests.{by_cases}
@@ -60,7 +60,7 @@ module _ (test : ℕ → Bool) where
         (λ k.
         let g : not (test (c + 1)) ≡ false = rw (lt-ltb c w k) at e in
         let f : w - c ≡ suc (w - (c + 1)) = omega arith in
-        rw f (first_here (c + 1) (w - (c + 1)) (not_false (test (c + 1)) g)))
+        rw f (first_here (c + 1) (w - (c + 1)) (not-false (test (c + 1)) g)))
         (λ k. let f : w - c ≡ 0 = omega arith in rw f (first_none (c + 1)))
 
     -- the first one is in 1 .. w + 1
@@ -106,7 +106,7 @@ module _ (test : ℕ → Bool) where
         by_cases (dec_le (suc (first + n)) w)
         (λ k.
         let g : not (test (w - n)) ≡ false = rw (lt-ltb (first + n) w k) at e in
-        past_is (w + 1) (w - n) (omega arith) (omega arith) (true_T (test (w - n)) (not_false (test (w - n)) g)) f)
+        past_is (w + 1) (w - n) (omega arith) (omega arith) (true_T (test (w - n)) (not-false (test (w - n)) g)) f)
         (λ k.
         by_cases (ℕ_discrete n 0)
         (λ z.

@@ -12,7 +12,7 @@ use mir.Val.{Fits}
 use lib.Dec.{T, leb, ltb, leb→le, ltb→lt, lt→ltb}
 use lib.Arith.{digits_div, digits_mod}
 use lib.ListN.{length}
-use borrow.Author.Tests.{eq_eqb, ne_eqb}
+use borrow.Author.Tests.{eq-eqb, ne_eqb}
 use Rattle.walkgraph.proofs.Tests.{by_cases, and_left, and_right, and_pair}
 use Rattle.walkgraph.proofs.Places.{flat_lt}
 use Rattle.walkgraph.proofs.DisjointSet.{Same}
@@ -178,7 +178,7 @@ module _ {width height : ℕ} {states₀ queue₀ parents₀ ranks₀ over down 
     unfolding highest
     quiet o h k =
         by_cases (ℕ_discrete (s % 32) 15)
-        (λ e. absurd (omega (arith, rw (eq_eqb (s % 32) 15 e) at k)))
+        (λ e. absurd (omega (arith, rw (eq-eqb (s % 32) 15 e) at k)))
         (λ n.
         let l = rw (ne_eqb (s % 32) 15 n) at k in
         let own = G.searching.labels (y * width + x) (here_label G.searching G.more) in

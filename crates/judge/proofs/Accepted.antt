@@ -9,7 +9,7 @@ use native.Mathlib.Omega.{arith}
 use lib.ListN.{length}
 use lib.IntN.{ℤ, pos, negsuc}
 use lib.Dec.{leb, ltb, eqb}
-use borrow.Author.Tests.{not_false, leb_true, ltb-true, eqb-true, le-leb, ne_eqb}
+use borrow.Author.Tests.{not-false, leb-true, ltb-true, eqb-true, le-leb, ne_eqb}
 use Rattle.walkgraph.specs.Ring.{pixel}
 use Rattle.walkgraph.specs.Refusals.{bad_lanes, bad_fours, bad_span}
 use Rattle.walkgraph.proofs.Tests.{by_cases}
@@ -29,8 +29,8 @@ unfolding bad_fours
 fours most numbers e =
     let whole = eqb (length numbers % 4) 0 in
     let few = leb (length numbers / 4) most in
-    let t = both whole few (not_false (whole && few) e) in
-    record { whole = eqb-true _ 0 t.0; few = leb_true _ most t.1 }
+    let t = both whole few (not-false (whole && few) e) in
+    record { whole = eqb-true _ 0 t.0; few = leb-true _ most t.1 }
 
 -- ---- the target box along one axis: both ends are cells of the map
 pub record Span (size : ℕ) (low high : ℤ) : Type 0 where
@@ -42,7 +42,7 @@ pub record Span (size : ℕ) (low high : ℤ) : Type 0 where
 pub span : (size : ℕ) (low high : ℤ) → bad_span size low high ≡ false → Span size low high
 unfolding bad_span pixel
 span size (pos a) (pos b) e =
-    let t = both (leb 0 a && leb a b) (ltb b size) (not_false (leb 0 a && leb a b && ltb b size) e) in
-    record { low_is = refl; high_is = refl; across = leb_true a b (both (leb 0 a) (leb a b) t.0).1; wide = ltb-true b size t.1 }
+    let t = both (leb 0 a && leb a b) (ltb b size) (not-false (leb 0 a && leb a b && ltb b size) e) in
+    record { low_is = refl; high_is = refl; across = leb-true a b (both (leb 0 a) (leb a b) t.0).1; wide = ltb-true b size t.1 }
 span size (pos a) (negsuc b) e = absurd (clash (rw (le-leb 0 a (omega arith)) at e))
 span size (negsuc a) high e = absurd (clash e)

@@ -3,7 +3,7 @@ use mathlib.Core.Path.{◌≡◌, refl, sym, ◌∙◌}
 use mathlib.Core.Bool.{Bool, true, false, not}
 use Prim.Native.Nat.{ℕ}
 use native.Mathlib.Omega.{arith}
-use borrow.Author.Tests.{not-true, not_false}
+use borrow.Author.Tests.{not-true, not-false}
 use Rattle.walkgraph.specs.Refusals.{Verdict, accepted, refused, judge}
 
 -- ---- one test: refused where it holds, decided by the rest where it does not
@@ -18,10 +18,10 @@ passes number place e f = rw e f
 -- what a call finds by `if !ok`
 module _ {ok bad : Bool} (e : ok ≡ not bad) where
   pub found_bad : not ok ≡ true → bad ≡ true
-  found_bad t = not_false bad (sym e ∙ not-true ok t)
+  found_bad t = not-false bad (sym e ∙ not-true ok t)
 
   pub found_good : not ok ≡ false → bad ≡ false
-  found_good t = not-true bad (sym e ∙ not_false ok t)
+  found_good t = not-true bad (sym e ∙ not-false ok t)
 
 apart : {number place : ℕ} → accepted ≡ refused number place → ⊥
 apart e = let z : ◌≡◌ {A = ℕ} 0 1 = cc in omega arith

@@ -8,7 +8,7 @@ use native.Mathlib.Omega.{arith}
 use lib.ListN.{get_or, length}
 use lib.IntN.{ℤ, pos}
 use lib.Arith.{digits_lt, digits_div, digits_mod}
-use borrow.Author.Tests.{eq_eqb, ne_eqb}
+use borrow.Author.Tests.{eq-eqb, ne_eqb}
 use Rattle.walkgraph.specs.Lanes.{unreachable, bias}
 use Rattle.walkgraph.specs.Sweep.{PaddedWindow, in_window, padded, sweeps}
 use Rattle.walkgraph.specs.Buffers.{Call, source_box, window_of, padded_of, unblocked, lane_start, cell_place, padded_cells, LanesAre, CountIs, flag_byte, row_first, row_past, UsedPart, by_cell, row_ends}
@@ -42,7 +42,7 @@ module _ (m : PaddedWindow) where
       let f : 2 * y / 2 ≡ y = omega arith in
       let g : ¬ ((2 * y + 1) % 2 ≡ 0) = λ q. omega arith in
       let k : (2 * y + 1) / 2 ≡ y = omega arith in
-      (u.entries (2 * y) (omega arith) ∙ rw (eq_eqb _ _ e, f), u.entries (2 * y + 1) (omega arith) ∙ rw (ne_eqb _ _ g, k))
+      (u.entries (2 * y) (omega arith) ∙ rw (eq-eqb _ _ e, f), u.entries (2 * y + 1) (omega arith) ∙ rw (ne_eqb _ _ g, k))
 
 -- ---- the row intervals
 module _ (c : Call) (filled : (source_box c).left ≤ (source_box c).right) (aimed : c.targets.left ≤ c.targets.right) where

@@ -8,7 +8,7 @@ use native.Mathlib.Decide.{ℕ_discrete}
 use native.Mathlib.Omega.{arith}
 use lib.ListN.{get_or, length}
 use lib.Arith.{digits_lt}
-use borrow.Author.Tests.{eq_eqb, ne_eqb}
+use borrow.Author.Tests.{eq-eqb, ne_eqb}
 use Rattle.walkgraph.specs.Lists.{placed, tabulate}
 use Rattle.walkgraph.specs.Lanes.{unreachable}
 use Rattle.walkgraph.specs.Sweep.{PaddedWindow, starts, start_table}
@@ -55,7 +55,7 @@ module _ (m : PaddedWindow) (before after : List ℕ) (filled : ℕ → ℕ) (lo
             by_cases (ℕ_discrete (j % 2) 0)
             (λ q.
             let e : j ≡ 2 * (j / 2) = omega arith in
-            rw (eq_eqb (j % 2) 0 q) (at j ∙ ap filled e ∙ first (j / 2) (omega arith)))
+            rw (eq-eqb (j % 2) 0 q) (at j ∙ ap filled e ∙ first (j / 2) (omega arith)))
             (λ q.
             let e : j ≡ 2 * (j / 2) + 1 = omega arith in
             rw (ne_eqb (j % 2) 0 q) (at j ∙ ap filled e ∙ past (j / 2) (omega arith)));

@@ -5,14 +5,14 @@ use Prim.Native.Nat.{ℕ}
 use native.Mathlib.Omega.{arith}
 use native.Mathlib.Decide.{ℕ_discrete}
 use lib.IntN.{ℤ, pos, negsuc}
-use borrow.Author.Tests.{eq_eqb, ne_eqb}
+use borrow.Author.Tests.{eq-eqb, ne_eqb}
 use Rattle.walkgraph.proofs.Tests.{by_cases}
 use Rattle.onelane.specs.Mark.{kept_mark}
 
 module _ (mark : ℤ) (old new : ℕ) where
   pub kept_same : old ≡ new → kept_mark mark old new ≡ mark
   unfolding kept_mark
-  kept_same e = rw (eq_eqb old new e)
+  kept_same e = rw (eq-eqb old new e)
 
   pub kept_other : (old ≡ new → ⊥) → kept_mark mark old new ≡ pos 0
   unfolding kept_mark

@@ -5,7 +5,7 @@ use mathlib.Core.Bool.{Bool, true, false, cond, not}
 use Prim.Native.Nat.{ℕ, ◌/◌, ◌≤◌}
 use native.Mathlib.Omega.{arith}
 use lib.ListN.{length}
-use borrow.Author.Tests.{not-true, not_false, eq_eqb, ne_eqb}
+use borrow.Author.Tests.{not-true, not-false, eq-eqb, ne_eqb}
 use Rattle.walkgraph.specs.Map.{Box}
 use Rattle.walkgraph.specs.Window.{window}
 use Rattle.walkgraph.specs.Sweep.{padded}
@@ -77,7 +77,7 @@ room_is i s lent before o l = ap (λ (w : Window). enough w lent) (window_is_lem
 
 no_resources : (i : FieldInput) (before : buffers.Lent) → length i.resources / 4 ≡ 0 → room_part reach i before ≡ accepted
 unfolding judge
-no_resources i before z = rw (eq_eqb (length i.resources / 4) 0 z)
+no_resources i before z = rw (eq-eqb (length i.resources / 4) 0 z)
 
 some_resources : (i : FieldInput) (before : buffers.Lent) → 1 ≤ length i.resources / 4 → room_part reach i before ≡ judge (short_buffers (call_of reach i) before) 7 0 accepted
 some_resources i before h = rw (ne_eqb (length i.resources / 4) 0 (λ z. omega (arith, h, z)))
@@ -141,7 +141,7 @@ module _ (i : FieldInput) (lent : Lent) (d : map_part i accepted ≡ accepted) (
           site = o;
           room = t;
         }
-    by_room false t = λ before l. room_decides reach i before d e ∙ (decided before ∙ sym (refuses _ (not_false _ (sym (room_is i s lent before o l) ∙ t))))
+    by_room false t = λ before l. room_decides reach i before d e ∙ (decided before ∙ sym (refuses _ (not-false _ (sym (room_is i s lent before o l) ∙ t))))
 
     pub make : (p : Plan) → p ≡ site_plan s lent → PlanOf i lent p
     unfolding site_plan

@@ -1,4 +1,6 @@
 // The version that a row last pulled from the row that feeds it.
+#![tactic(auto)]
+
 ghost use Rattle.std.specs.Prelude.{◌<◌, length};
 ghost use Rattle.pulls.specs.Pulls.{Pulls};
 

@@ -1,4 +1,6 @@
 // How the sweeps run: which way each goes, and when they end.
+#![tactic(auto)]
+
 ghost use Rattle.std.specs.Prelude.{◌≡◌, false, cond, ◌%◌, leb, eqb};
 
 // Whether the sweep of this number, from 0, goes down: the even ones do.

@@ -8,7 +8,7 @@ use native.Mathlib.Omega.{arith}
 use lib.ListN.{length}
 use lib.IntN.{ℤ}
 use lib.Dec.{leb, ltb, eqb}
-use borrow.Author.Tests.{leb_true, ltb-true}
+use borrow.Author.Tests.{leb-true, ltb-true}
 use Rattle.walkgraph.specs.Reading.{WindowRecord, fits, in_record, outside_part, read_part}
 use Rattle.walkgraph.specs.Refusals.{bad_lanes}
 use Rattle.cells.proofs.Bools.{both}
@@ -39,12 +39,12 @@ module _ (r : WindowRecord) (n x y : ℕ) where
       let f = both across (leb r.top y) d.0 in
       let g = both (leb r.left x) (ltb (x - r.left) r.width) f.0 in
       record {
-        wide = leb_true r.width 1024 c.1;
-        high = leb_true r.height 1024 b.1;
+        wide = leb-true r.width 1024 c.1;
+        high = leb-true r.height 1024 b.1;
         few = ⊎_elim (λ i. omega arith) (λ i. omega arith) (lanes r.lanes (ap not c.0));
-        from_left = leb_true r.left x g.0;
+        from_left = leb-true r.left x g.0;
         column = ltb-true (x - r.left) r.width g.1;
-        from_top = leb_true r.top y f.1;
+        from_top = leb-true r.top y f.1;
         row = ltb-true (y - r.top) r.height d.1;
       }
 

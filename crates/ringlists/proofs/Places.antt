@@ -6,7 +6,7 @@ use native.Mathlib.Nat.{suc-mul, add-zero, add-suc}
 use native.Mathlib.Numerals.{add-one}
 use native.Mathlib.Omega.{arith}
 use lib.ListN.{length, get_or, length-append}
-use borrow.Author.Tests.{eq_eqb, ne_eqb}
+use borrow.Author.Tests.{eq-eqb, ne_eqb}
 use Rattle.walkgraph.proofs.Tests.{by_cases}
 use native.Mathlib.Decide.{ℕ_discrete}
 use Rattle.ringlists.specs.Places.{in_order, open_place, open_places}
@@ -55,7 +55,7 @@ in_order_most f each (suc n) e =
 -- ---- the place of a cell
 pub open_yes : (byte place : ℕ) → byte ≡ 1 → open_place byte place ≡ place ∷ []
 unfolding open_place
-open_yes byte place e = rw (eq_eqb byte 1 e)
+open_yes byte place e = rw (eq-eqb byte 1 e)
 
 pub open_no : (byte place : ℕ) → ¬ (byte ≡ 1) → open_place byte place ≡ []
 unfolding open_place

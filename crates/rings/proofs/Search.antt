@@ -9,7 +9,7 @@ use native.Mathlib.Numerals.{add-one}
 use lib.IntN.{ℤ}
 use lib.ListN.{length}
 use lib.Dec.{ltb}
-use borrow.Author.Tests.{not-true, not_false, ltb-true, lt-ltb}
+use borrow.Author.Tests.{not-true, not-false, ltb-true, lt-ltb}
 use Rattle.walkgraph.specs.Lists.{first_from}
 use Rattle.walkgraph.specs.Painting.{rectangle}
 use Rattle.walkgraph.specs.Refusals.{bad_resource, first_bad_resource}
@@ -42,7 +42,7 @@ module _ (w h : ℕ) (l : List ℤ) (k : ℕ) where
       (λ j.
       let p : k < length l / 4 = omega arith in
       let g : length l / 4 - k ≡ suc (length l / 4 - (k + 1)) = omega arith in
-      let f : bad_resource w h (rectangle l k) ≡ true = not_false _ (rw (lt-ltb k (length l / 4) p) at e) in
+      let f : bad_resource w h (rectangle l k) ≡ true = not-false _ (rw (lt-ltb k (length l / 4) p) at e) in
       rw (g, f))
 
 -- where none is refused, each is accepted

@@ -6,7 +6,7 @@ use native.Mathlib.Omega.{arith}
 use lib.IntN.{ℤ, pos, negsuc}
 use lib.Signed.{lt_z, le_z}
 use lib.Dec.{T, leb, ltb, leb→le, ltb→lt}
-use borrow.Author.Tests.{not_false, ltb-true, leb_true, leb_false, le-leb, lt-ltb, le-ltb}
+use borrow.Author.Tests.{not-false, ltb-true, leb-true, leb-false, le-leb, lt-ltb, le-ltb}
 use Rattle.walkgraph.specs.Painting.{Rectangle}
 use Rattle.walkgraph.specs.Ring.{pixel}
 use Rattle.walkgraph.specs.Refusals.{bad_side, bad_resource}
@@ -21,7 +21,7 @@ span_below size (negsuc a) high e = refl
 
 pub span_empty : (size : ℕ) (low high : ℤ) → le_z high low ≡ true → not (bad_side size low high) ≡ false
 unfolding bad_side
-span_empty size (pos a) (pos b) e = rw (le-leb 0 a (omega arith), le-ltb a b (leb_true b a e))
+span_empty size (pos a) (pos b) e = rw (le-leb 0 a (omega arith), le-ltb a b (leb-true b a e))
 span_empty size (pos a) (negsuc b) e = rw (le-leb 0 a (omega arith))
 span_empty size (negsuc a) high e = refl
 
@@ -32,7 +32,7 @@ pub record EndDecides (size : ℕ) (low high : ℤ) : Type 0 where
 
 pub span_end : (size : ℕ) (low high : ℤ) → lt_z low (pos 0) ≡ false → le_z high low ≡ false → EndDecides size low high
 unfolding bad_side pixel
-span_end size (pos a) (pos b) e f = record { high_is = refl; test = rw (le-leb 0 a (omega arith), lt-ltb a b (leb_false b a f)) (not_not (leb b (8 * size))) }
+span_end size (pos a) (pos b) e f = record { high_is = refl; test = rw (le-leb 0 a (omega arith), lt-ltb a b (leb-false b a f)) (not_not (leb b (8 * size))) }
 span_end size (pos a) (negsuc b) e f = absurd (clash f)
 span_end size (negsuc a) high e f = absurd (clash e)
 
@@ -46,7 +46,7 @@ pub record Side (size : ℕ) (low high : ℤ) : Type 0 where
 pub side : (size : ℕ) (low high : ℤ) → bad_side size low high ≡ false → Side size low high
 unfolding bad_side pixel
 side size (pos a) (pos b) e =
-    let t : T (leb 0 a && ltb a b && leb b (8 * size)) = rw (not_false (leb 0 a && ltb a b && leb b (8 * size)) e) tt in
+    let t : T (leb 0 a && ltb a b && leb b (8 * size)) = rw (not-false (leb 0 a && ltb a b && leb b (8 * size)) e) tt in
     let u = and_left (leb 0 a && ltb a b) (leb b (8 * size)) t in
     record {
       low_is = refl;

@@ -1,4 +1,6 @@
 // The limits of a room that the program takes, and arrays of zeros with room for any room in them, its text and its sheet.
+#![tactic(auto)]
+
 ghost use Rattle.std.specs.Prelude.{◌≡◌, ◌+◌, ◌*◌, replicate};
 ghost use Rattle.roomlimits.specs.Limits.{in_limits};
 

@@ -4,7 +4,7 @@ use mathlib.Core.List.{List, [], ◌∷◌, map}
 use Prim.Native.Nat.{ℕ, ◌+◌, ◌<◌}
 use native.Mathlib.Numerals.{add-one}
 use native.Mathlib.Omega.{arith}
-use borrow.Author.Tests.{eq_eqb, ne_eqb}
+use borrow.Author.Tests.{eq-eqb, ne_eqb}
 use lib.ListN.{length, get_or, take, drop, set, length-drop, length-map}
 use lib.Seq.{sets, length-take-le, take-suc, get_or-drop}
 use Rattle.roomlines.proofs.Parts.{map_append, sets_append}
@@ -13,7 +13,7 @@ use Rattle.roomrows.specs.Rows.{cell_of}
 -- ---- bytes
 pub cell_dot : (byte : ℕ) → byte ≡ 46 → 1 ≡ cell_of byte
 unfolding cell_of
-cell_dot byte e = rw (eq_eqb byte 46 e)
+cell_dot byte e = rw (eq-eqb byte 46 e)
 
 pub cell_other : (byte : ℕ) → (byte ≡ 46 → ⊥) → 0 ≡ cell_of byte
 unfolding cell_of

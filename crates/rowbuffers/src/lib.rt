@@ -1,4 +1,6 @@
 // The buffers of a window that go by its rows: the row intervals and the versions.
+#![tactic(auto)]
+
 ghost use Rattle.std.specs.Prelude.{◌≡◌, ◌&&◌, ◌+◌, ◌*◌, ◌≤◌, leb};
 
 // Whether they are as long as a window of height rows needs.

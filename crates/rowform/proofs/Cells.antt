@@ -6,7 +6,7 @@ use Prim.Native.Nat.{ℕ, ◌+◌, ◌-◌, ◌≤◌, ◌<◌}
 use native.Mathlib.Numerals.{add-one}
 use native.Mathlib.Omega.{arith}
 use native.Mathlib.Decide.{dec_lt}
-use borrow.Author.Tests.{eq_eqb, ne_eqb}
+use borrow.Author.Tests.{eq-eqb, ne_eqb}
 use lib.Dec.{eqb}
 use lib.ListN.{length, get_or, take, drop, length-drop, take-append-drop, get_or-append}
 use lib.Seq.{length-take-le, drop-cons, drop-drop, get_or-drop, get_or-take, get_or-append_seam}
@@ -17,7 +17,7 @@ use Rattle.rowform.specs.Rows.{is_cell, JudgesRow, row_stands, no_row}
 -- ---- bytes
 pub dot_is_cell : (byte : ℕ) → byte ≡ 46 → true ≡ is_cell byte
 unfolding is_cell
-dot_is_cell byte e = rw (eq_eqb byte 46 e)
+dot_is_cell byte e = rw (eq-eqb byte 46 e)
 
 pub other_is_cell : (byte : ℕ) → (byte ≡ 46 → ⊥) → eqb byte 35 ≡ is_cell byte
 unfolding is_cell

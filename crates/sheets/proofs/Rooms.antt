@@ -11,7 +11,7 @@ use lib.ListN.{length, take, drop}
 use lib.Seq.{slice}
 use mir.Syntax.{w32, w64}
 use mir.Val.{Fits}
-use borrow.Author.Tests.{leb_true}
+use borrow.Author.Tests.{leb-true}
 use Rattle.walkgraph.specs.Painting.{rectangle}
 use Rattle.cells.proofs.Bools.{both}
 use Rattle.roomtext.specs.Readings.{RoomTaken}
@@ -46,7 +46,7 @@ room_read {width} {height} {m} {n} e =
     let a = both (leb height 60) _ e in
     let b = both (leb width 60) _ a.1 in
     let d = both (leb m 64) (leb n 8) b.1 in
-    record { columns = leb_true width 60 b.0; rows = leb_true height 60 a.0; painted = leb_true m 64 d.0; few = leb_true n 8 d.1 }
+    record { columns = leb-true width 60 b.0; rows = leb-true height 60 a.0; painted = leb-true m 64 d.0; few = leb-true n 8 d.1 }
 
 module _ {width height m n : ℕ} (f : RoomRead width height m n) where
   -- rows and columns in the limits have 3,600 cells

@@ -11,7 +11,7 @@ use lib.IntN.{ℤ, pos}
 use lib.ListN.{length, set}
 use lib.Seq.{get_or-set_same, get_or-set_other}
 use lib.Dec.{T, eqb}
-use borrow.Author.Tests.{eq_eqb, ne_eqb}
+use borrow.Author.Tests.{eq-eqb, ne_eqb}
 use Rattle.walkgraph.proofs.Tests.{by_cases, or_cases, or_left, or_right}
 use Rattle.lane.specs.Levels.{level, level_at, started_level}
 use Rattle.start.specs.Hits.{some_below, started_levels}
@@ -67,5 +67,5 @@ started_set d i v hit b e = λ k j. same j k
     same : (j : ℕ) → level_at (set d i v) j ≡ started_level (level_at d j) (eqb j i && hit)
     same j =
         by_cases (ℕ_discrete j i)
-        (λ q. rw (q, eq_eqb i i refl) (ap level (get_or-set_same d i v (pos 0) b) ∙ e))
+        (λ q. rw (q, eq-eqb i i refl) (ap level (get_or-set_same d i v (pos 0) b) ∙ e))
         (λ q. rw (ne_eqb j i q) (ap level (get_or-set_other d i j v (pos 0) q)))

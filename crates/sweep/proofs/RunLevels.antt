@@ -7,7 +7,7 @@ use native.Mathlib.Decide.{dec_le, ℕ_discrete}
 use native.Mathlib.Omega.{arith}
 use lib.ListN.{get_or, length}
 use lib.Dec.{T, eqb}
-use borrow.Author.Tests.{eq_eqb, ne_eqb}
+use borrow.Author.Tests.{eq-eqb, ne_eqb}
 use Rattle.walkgraph.specs.Lanes.{unreachable}
 use Rattle.walkgraph.specs.Sweep.{PaddedWindow, written, value_at, Direction, down, up, turn, direction, sweep, sweeps, Quiet, IsCount}
 use Rattle.walkgraph.proofs.Tests.{by_cases}
@@ -29,8 +29,8 @@ turn_not false = refl
 goes_next : (n : ℕ) → goes_down (suc n) ≡ not (goes_down n)
 goes_next n =
     by_cases (ℕ_discrete (n % 2) 0)
-    (λ e. let f : ¬ (suc n % 2 ≡ 0) = λ q. omega arith in ne_eqb _ _ f ∙ ap not (sym (eq_eqb _ _ e)))
-    (λ e. let f : suc n % 2 ≡ 0 = omega arith in eq_eqb _ _ f ∙ ap not (sym (ne_eqb _ _ e)))
+    (λ e. let f : ¬ (suc n % 2 ≡ 0) = λ q. omega arith in ne_eqb _ _ f ∙ ap not (sym (eq-eqb _ _ e)))
+    (λ e. let f : suc n % 2 ≡ 0 = omega arith in eq-eqb _ _ f ∙ ap not (sym (ne_eqb _ _ e)))
 
 pub direction_is : (n : ℕ) → direction n ≡ dir_of (goes_down n)
 unfolding direction

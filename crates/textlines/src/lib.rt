@@ -1,4 +1,6 @@
 // Lines of a text, each ended by LF.
+#![tactic(auto)]
+
 ghost use Rattle.std.specs.Prelude.{◌≡◌, length, ltb};
 ghost use Rattle.textlines.specs.Lines.{FindsLine};
 ghost use Rattle.textlines.specs.Answers.{line_found};

@@ -1,4 +1,6 @@
 // A reader over a room text, which remembers how far it has come. The prover's own walk covers no function over such a struct: each is thin, and proved by hand.
+#![tactic(auto)]
+
 ghost use Rattle.std.specs.Prelude.{◌≡◌};
 
 // The text, and the place up to which it was read.

@@ -7,7 +7,7 @@ use native.Mathlib.Nat.{mul_comm}
 use native.Mathlib.Omega.{arith}
 use lib.ListN.{length, drop}
 use lib.Dec.{leb, ltb}
-use borrow.Author.Tests.{not_false, leb_true, ltb-false}
+use borrow.Author.Tests.{not-false, leb-true, ltb-false}
 use Rattle.walkgraph.specs.Buffers.{UsedPart}
 use Rattle.walkgraph.specs.Refusals.{bad_grid, bad_access, short_join, join_verdict, accepted}
 use Rattle.walkgraph.specs.FieldsPromise.{JoinInput, JoinLent, lengths_of, fields_verdict, FieldsMade}
@@ -39,11 +39,11 @@ roomy cells n before e =
     let c = leb n (length before.parents) in
     let d = leb n (length before.ranks) in
     let f = leb n (length before.answers) in
-    let t = both (a && b && c && d) f (not_false (a && b && c && d && f) e) in
+    let t = both (a && b && c && d) f (not-false (a && b && c && d && f) e) in
     let u = both (a && b && c) d t.0 in
     let v = both (a && b) c u.0 in
     let w = both a b v.0 in
-    record { states = leb_true _ _ w.0; queue = leb_true _ _ w.1; parents = leb_true _ _ v.1; ranks = leb_true _ _ u.1; answers = leb_true _ _ t.1 }
+    record { states = leb-true _ _ w.0; queue = leb-true _ _ w.1; parents = leb-true _ _ v.1; ranks = leb-true _ _ u.1; answers = leb-true _ _ t.1 }
 
 -- what is known of a call that is not refused
 pub record Passed (i : JoinInput) (before : JoinLent) : Type 0 where

@@ -9,7 +9,7 @@ use native.Mathlib.Omega.{arith}
 use lib.IntN.{ℤ}
 use lib.ListN.{length}
 use lib.Dec.{eqb, not_T}
-use borrow.Author.Tests.{lt-ltb, eq_eqb, ne_eqb}
+use borrow.Author.Tests.{lt-ltb, eq-eqb, ne_eqb}
 use Rattle.walkgraph.specs.Map.{Box, In, in_box, walkable}
 use Rattle.walkgraph.specs.Painting.{covered, painted}
 use Rattle.walkgraph.specs.Window.{window}
@@ -32,7 +32,7 @@ use Rattle.walkbytes.proofs.Painted.{painted_in, painted_out, painted_past}
 byte_bit : (v : ℕ) → v ≤ 1 → bit (eqb v 1) ≡ v
 byte_bit v h =
     by_cases (ℕ_discrete v 1)
-    (λ e. rw (eq_eqb v 1 e) (sym e))
+    (λ e. rw (eq-eqb v 1 e) (sym e))
     (λ e. rw (ne_eqb v 1 e) (omega arith))
 
 unpainted : (open? cover? : Bool) (v : ℕ) → bit open? ≡ v → cond cover? 0 v ≡ bit (open? && not cover?)

@@ -2,7 +2,7 @@
 use mathlib.Core.Path.{◌≡◌, sym, ◌∙◌}
 use mathlib.Core.Bool.{true}
 use borrow.Author.Rules.{rules}
-use borrow.Author.Tests.{not-true, not_false, eq_eqb, ne_eqb}
+use borrow.Author.Tests.{not-true, not-false, eq-eqb, ne_eqb}
 use native.Mathlib.Nat.{mul-le-mul}
 use native.Mathlib.Omega.{arith}
 use Rattle.badgrid.specs.Grids.{in_limits}
@@ -23,7 +23,7 @@ size-ok-requires-2 : tie.Need-size-ok-requires-2
 size-ok-requires-2 c κs = search rules
 
 wide : (c : tie.Else1) → in_limits c.before.before.before.args.width ≡ true
-wide c = sym c.before.Size-ok.ensures ∙ not_false _ c.if1.false
+wide c = sym c.before.Size-ok.ensures ∙ not-false _ c.if1.false
 
 returns-2 : tie.Need-returns-2
 returns-2 c =
@@ -31,7 +31,7 @@ returns-2 c =
     rw (good_grid b.width b.height b.cells.now, wide c.before.before, sym c.before.size-ok2.ensures ∙ not-true _ c.if2.true)
 
 high : (c : tie.Else2) → in_limits c.before.before.before.before.before.args.height ≡ true
-high c = sym c.before.size-ok2.ensures ∙ not_false _ c.if2.false
+high c = sym c.before.size-ok2.ensures ∙ not-false _ c.if2.false
 
 mul-if3 : tie.Need-overflow-mul-if3
 mul-if3 c = record { fits = omega (arith, mul-le-mul (size _ (wide c.before.before)).most (size _ (high c)).most) }
@@ -47,7 +47,7 @@ greatest-requires c κs = search rules
 returns-4 : tie.Need-returns-4
 returns-4 c =
     let b = c.before.before.before.before.before.before.before.args in
-    rw (good_grid b.width b.height b.cells.now, wide c.before.before.before.before, high c.before.before, eq_eqb _ _ c.before.if3.false, c.greatest.ensures)
+    rw (good_grid b.width b.height b.cells.now, wide c.before.before.before.before, high c.before.before, eq-eqb _ _ c.before.if3.false, c.greatest.ensures)
 
 pub grid-ok-spec : {M : Type 1} → statement M
 grid-ok-spec =

@@ -1,7 +1,7 @@
 -- `cellstate::highest`: by the depth.
 use native.Mathlib.Omega.{arith}
 use Prim.Native.Nat.{◌%◌}
-use borrow.Author.Tests.{eq_eqb, ne_eqb}
+use borrow.Author.Tests.{eq-eqb, ne_eqb}
 use Rattle.cellstate.specs.Looks.{highest}
 use borrow.Author.Rules.{rules}
 use Rattle.cellstate.proofs.highest.Statement.{statement}
@@ -9,7 +9,7 @@ use Rattle.cellstate.proofs.highest.Tie as tie
 
 returns : tie.Need-returns
 unfolding highest
-returns c = let a = c.before.args in rw (eq_eqb (a.state % 32) 15 (omega arith))
+returns c = let a = c.before.args in rw (eq-eqb (a.state % 32) 15 (omega arith))
 
 mul-result : tie.Need-overflow-mul-result
 mul-result c = search rules

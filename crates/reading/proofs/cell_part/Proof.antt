@@ -2,7 +2,7 @@
 use mathlib.Core.Path.{◌≡◌, sym, ◌∙◌}
 use mathlib.Core.Bool.{true, false, ◌&&◌}
 use borrow.Author.Rules.{rules}
-use borrow.Author.Tests.{not-true, not_false}
+use borrow.Author.Tests.{not-true, not-false}
 use Rattle.walkgraph.specs.Reading.{fits, in_record, outside_part}
 use Rattle.window.specs.Windows.{as_record}
 use Rattle.reading.proofs.Parts.{outside, inside, of_cell}
@@ -22,7 +22,7 @@ returns c = let b = c.before.before.args in rw (outside (as_record b.window) b.l
 
 -- the record holds the cell
 held : (c : tie.Else1) → (fits (as_record c.before.before.args.window) c.before.before.args.length && in_record (as_record c.before.before.args.window) c.before.before.args.x c.before.before.args.y) ≡ true
-held c = sym c.before.holds.ensures ∙ not_false _ c.if1.false
+held c = sym c.before.holds.ensures ∙ not-false _ c.if1.false
 
 start-of-requires : tie.Need-start-of-requires
 start-of-requires c κs = of_cell _ c.before.before.args.length _ _ (held c)

@@ -1,6 +1,6 @@
 -- `ringcell::covers`: by the column, then by the row.
 use mathlib.Core.Path.{sym, ◌∙◌}
-use borrow.Author.Tests.{not-true, not_false}
+use borrow.Author.Tests.{not-true, not-false}
 use Rattle.walkgraph.specs.Map.{in_box}
 use Rattle.ringcell.proofs.covers.Statement.{statement}
 use Rattle.ringcell.proofs.covers.Tie as tie
@@ -17,7 +17,7 @@ holds-requires-2 c κs = tt
 
 returns-2 : tie.Need-returns-2
 unfolding in_box
-returns-2 c = rw (sym c.before.before.holds.ensures ∙ not_false c.before.before.holds.result c.before.if1.false) c.holds2.ensures
+returns-2 c = rw (sym c.before.before.holds.ensures ∙ not-false c.before.before.holds.result c.before.if1.false) c.holds2.ensures
 
 pub covers-spec : {M : Type 1} → statement M
 covers-spec = tie.close (tie.spec holds-requires returns holds-requires-2 returns-2)

@@ -3,7 +3,7 @@ use mathlib.Core.Bool.{true}
 use Prim.Native.Nat.{◌-◌}
 use native.Mathlib.Omega.{arith}
 use borrow.Author.Rules.{rules}
-use borrow.Author.Tests.{not-true, not_false}
+use borrow.Author.Tests.{not-true, not-false}
 use Rattle.rowform.specs.Rows.{JudgesRow}
 use Rattle.roomrows.specs.Answers.{rows_found}
 use Rattle.roomrows.proofs.Lined.{RowsRead, rows_none, rows_length, rows_room, rows_turn, rows_taken, rows_stop}
@@ -31,7 +31,7 @@ returns c = rows_stop c.before.before.before.loop.invariant c.before.before.befo
 
 -- the next line is a row
 stands : (c : tie.Else1 invariant-loop decreases-loop) → JudgesRow c.before.before.before.before.before.before.args.text.now c.before.before.before.loop.from c.before.before.before.before.before.before.args.width true
-stands c = rw (not_false c.before.is_row.result c.if1.false) at c.before.is_row.ensures
+stands c = rw (not-false c.before.is_row.result c.if1.false) at c.before.is_row.ensures
 
 store-requires : tie.Need-store-requires invariant-loop decreases-loop
 store-requires c κs = let w = rows_room c.before.before.before.before.loop.invariant c.before.before.before.before.before.before.before.requires.0 (stands c.before) in (omega (arith, w.0), w.1)

@@ -3,7 +3,7 @@ use mathlib.Core.Path.{◌≡◌, sym, ◌∙◌}
 use Prim.Native.Nat.{◌-◌, ◌≤◌}
 use native.Mathlib.Omega.{arith}
 use borrow.Author.Rules.{rules}
-use borrow.Author.Tests.{not-true, not_false}
+use borrow.Author.Tests.{not-true, not-false}
 use Rattle.rowform.proofs.Cells.{CellsFrom, cells_none, cells_more, too_short, other_byte, no_cell, cells_row}
 use Rattle.rowform.proofs.is_row.Statement.{statement}
 use Rattle.rowform.proofs.is_row.Tie as tie
@@ -51,7 +51,7 @@ loop-less : tie.Need-loop-smaller invariant-loop decreases-loop
 loop-less c = omega arith
 
 loop-again : tie.Need-loop-preserved invariant-loop decreases-loop
-loop-again c = (cells_more c.before.before.before.before.loop.invariant.0 (sym c.before.is-cell.ensures ∙ not_false _ c.if3.false), omega arith)
+loop-again c = (cells_more c.before.before.before.before.loop.invariant.0 (sym c.before.is-cell.ensures ∙ not-false _ c.if3.false), omega arith)
 
 returns-4 : tie.Need-returns-4 invariant-loop decreases-loop
 returns-4 c =

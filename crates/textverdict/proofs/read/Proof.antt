@@ -3,7 +3,7 @@ use mathlib.Core.Path.{sym, ◌∙◌}
 use Prim.Native.Nat.{◌≤◌}
 use native.Mathlib.Omega.{arith}
 use borrow.Author.Rules.{rules}
-use borrow.Author.Tests.{not-true, not_false}
+use borrow.Author.Tests.{not-true, not-false}
 use lib.ListN.{length}
 use Rattle.roomtext.specs.Readings.{ReadsRoom, room, broken_at}
 use Rattle.roomtext.specs.Answers.{room_found}
@@ -73,7 +73,7 @@ same-length-6 c = search rules
 
 returns-4 : tie.Need-returns-4
 unfolding verdict_of
-returns-4 c = good_text (short c.before.before.before.before.before.before.before.before) (read c.before.before) (sym c.before.in_limits.ensures ∙ not_false c.before.in_limits.result c.if2.false)
+returns-4 c = good_text (short c.before.before.before.before.before.before.before.before) (read c.before.before) (sym c.before.in_limits.ensures ∙ not-false c.before.in_limits.result c.if2.false)
 
 pub read_spec : {M : Type 1} → statement M
 read_spec =

@@ -4,7 +4,7 @@ use mathlib.Core.Bool.{true}
 use Prim.Native.Nat.{◌-◌, ◌≤◌, ◌<◌}
 use native.Mathlib.Omega.{arith}
 use borrow.Author.Rules.{rules}
-use borrow.Author.Tests.{not-true, not_false}
+use borrow.Author.Tests.{not-true, not-false}
 use lib.ListN.{length, get_or}
 use Rattle.decimal.specs.Numbers.{is_digit}
 use Rattle.decimal.specs.Answers.{natural_found}
@@ -30,7 +30,7 @@ returns c = natural_nothing (λ n past h m. clash (sym (pos_starts m) ∙ sym c.
 
 -- a digit stands at the place
 starts : (c : tie.Else1 invariant-loop decreases-loop) → is_digit (get_or c.before.before.before.args.text.now c.before.before.before.args.at 0) ≡ true
-starts c = sym c.before.digit_at.ensures ∙ not_false _ c.if1.false
+starts c = sym c.before.digit_at.ensures ∙ not-false _ c.if1.false
 
 starts-inside : (c : tie.Else1 invariant-loop decreases-loop) → c.before.before.before.args.at < length c.before.before.before.args.text.now
 starts-inside c = digit_inside c.before.before.before.args.text.now c.before.before.before.args.at (starts c)

@@ -1,5 +1,5 @@
 -- `judge::numbers::lanes_ok`: its two tests are those of the table.
-use borrow.Author.Tests.{eq_eqb, ne_eqb}
+use borrow.Author.Tests.{eq-eqb, ne_eqb}
 use Rattle.walkgraph.specs.Refusals.{bad_lanes}
 use Rattle.cells.proofs.Bools.{not_not}
 use Rattle.judge.proofs.numbers.lanes_ok.Statement.{statement}
@@ -7,7 +7,7 @@ use Rattle.judge.proofs.numbers.lanes_ok.Tie as tie
 
 returns : tie.Need-returns
 unfolding bad_lanes
-returns c = rw (eq_eqb c.before.args.lanes 8 c.if1.true)
+returns c = rw (eq-eqb c.before.args.lanes 8 c.if1.true)
 
 returns-2 : tie.Need-returns-2
 unfolding bad_lanes

@@ -2,7 +2,7 @@
 use mathlib.Core.Path.{◌≡◌, sym, ◌∙◌, ap}
 use mathlib.Core.Bool.{Bool, true, false, not}
 use Prim.Native.Nat.{ℕ, ◌+◌, ◌*◌, ◌-◌, ◌/◌, ◌≤◌, ◌<◌, min}
-use borrow.Author.Tests.{not-true, not_false}
+use borrow.Author.Tests.{not-true, not-false}
 use native.Mathlib.Omega.{arith}
 use lib.IntN.{ℤ}
 use mir.Syntax.{w32}
@@ -23,10 +23,10 @@ module _ (size : ℕ) (low high : ℤ) (f : SFits w32 low) (g : SFits w32 high) 
   told = rw (to_z-of_z w32 low f, to_z-of_z w32 high g) at e
 
   refused : not r ≡ true → bad_side size low high ≡ true
-  refused t = not_false (bad_side size low high) (sym told ∙ not-true r t)
+  refused t = not-false (bad_side size low high) (sym told ∙ not-true r t)
 
   accepted : not r ≡ false → bad_side size low high ≡ false
-  accepted t = not-true (bad_side size low high) (sym told ∙ not_false r t)
+  accepted t = not-true (bad_side size low high) (sym told ∙ not-false r t)
 
 -- a cell by the pixel that is cast: of a low edge and of a high one, the one before it, the one after it, and that it is on a map
 cell_is : {cell pixel n : ℕ} → cell ≡ pixel / 8 → pixel ≡ n → cell ≡ n / 8
