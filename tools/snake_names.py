@@ -17,7 +17,7 @@ LOCAL = ["bodyCells", "eastOpen", "halfCost", "ringCells", "rowGap", "sourceGap"
 
 
 def files(*kinds):
-    return sorted(p for k in kinds for p in glob.glob(f"crates/*/{k}", recursive=True) if "/out/" not in p)
+    return sorted(p for k in kinds for p in glob.glob(f"crates/*/{k}", recursive=True) if not re.match(r"crates/\w+/out/", p))
 
 
 def read(path):

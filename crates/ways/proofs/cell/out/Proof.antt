@@ -5,7 +5,7 @@ use native.Mathlib.Nat.{mod-lt}
 use native.Mathlib.Omega.{arith}
 use Rattle.onelane.specs.Takes.{out_at}
 use Rattle.ways.specs.Row.{turned}
-use Rattle.ways.proofs.Table.{gate-level, gate-in, wall-out}
+use Rattle.ways.proofs.Table.{gate_level, gate_in, wall_out}
 use Rattle.ways.proofs.cell.out.Statement.{statement}
 use Rattle.ways.proofs.cell.out.Tie as tie
 
@@ -14,7 +14,7 @@ odd : (n : ℕ) → ¬ (n % 2 ≡ 0) → n % 2 ≡ 1
 odd n h = let b : n % 2 < 2 = mod-lt n (omega arith) in omega arith
 
 returns : tie.Need-returns
-returns c = record { each = λ k h. wall-out c.if1.true k h _ _ _ _ _ _ _ }
+returns c = record { each = λ k h. wall_out c.if1.true k h _ _ _ _ _ _ _ }
 
 turned-requires : tie.Need-turned-requires
 turned-requires c κs = tt
@@ -40,8 +40,8 @@ out-requires c κs =
       record {
         left = omega (arith, f.low, f.fed);
         right = f.fed;
-        left-gate = gate-in g _ c.before.west-gate.ensures;
-        right-gate = gate-in g _ c.east-gate.ensures;
+        left_gate = gate_in g _ c.before.west_gate.ensures;
+        right_gate = gate_in g _ c.east_gate.ensures;
       },
     )
 
@@ -55,11 +55,11 @@ returns-2 c =
     record {
       each = λ k h. c.out.ensures.each k h
           ∙ rw (
-            c.before.before.west-gate.ensures,
-            c.before.east-gate.ensures,
+            c.before.before.west_gate.ensures,
+            c.before.east_gate.ensures,
             c.before.before.before.before.turned.ensures,
-            gate-level g (t / 2 % 2) k (mod-lt (t / 2) (omega arith)) h,
-            gate-level g (t / 4 % 2) k (mod-lt (t / 4) (omega arith)) h,
+            gate_level g (t / 2 % 2) k (mod-lt (t / 2) (omega arith)) h,
+            gate_level g (t / 4 % 2) k (mod-lt (t / 4) (omega arith)) h,
             odd a.flag p.if1.false,
           );
     }
