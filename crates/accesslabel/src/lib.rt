@@ -1,4 +1,6 @@
 // Where the access cells of a resource start among the indices, and the label and the point of one.
+#![tactic(auto)]
+
 ghost use Rattle.std.specs.Prelude.{◌≡◌, ◌≤◌, ◌<◌, length};
 ghost use Rattle.walkgraph.specs.FieldsPromise.{start_of};
 ghost use Rattle.accesslabel.specs.AccessLabel.{label_of, point_of};

@@ -1,4 +1,6 @@
 // Refusal 8: the access cells of all resources, as one list of indices with an end for each resource.
+#![tactic(auto)]
+
 ghost use Rattle.std.specs.Prelude.{◌≡◌, not, ◌&&◌, ltb, eqb};
 ghost use Rattle.walkgraph.specs.Refusals.{all, never_fall, last_end, bad_access};
 

@@ -1,4 +1,6 @@
 // Refusal 1: the size of a map, and one byte a cell.
+#![tactic(auto)]
+
 ghost use Rattle.std.specs.Prelude.{◌≡◌, not, max};
 ghost use Rattle.walkgraph.specs.Refusals.{bad_grid};
 ghost use Rattle.badgrid.specs.Greatest.{greatest};

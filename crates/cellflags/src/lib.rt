@@ -1,4 +1,6 @@
 // The flags of a cell: walkable 1, plus 2, 4, 8, 16 for a move from the NW, NE, SW, SE whose two side cells are walkable.
+#![tactic(auto)]
+
 ghost use Rattle.std.specs.Prelude.{◌≡◌, ◌*◌, ◌≤◌};
 ghost use Rattle.cellflags.specs.CellFlags.{flags_of};
 

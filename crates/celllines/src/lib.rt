@@ -1,4 +1,6 @@
 // The line of a cell: its column, its row, and what each resource's lane says. Each function answers the place after what it put.
+#![tactic(auto)]
+
 ghost use Rattle.page.specs.Puts.{Puts, Room};
 ghost use Rattle.celllines.specs.Costs.{cost_texts, cell_line};
 

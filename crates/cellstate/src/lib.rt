@@ -1,4 +1,6 @@
 // What the search reads of the cells' states.
+#![tactic(auto)]
+
 ghost use Rattle.std.specs.Prelude.{◌≡◌, ◌<◌, eqb, length};
 ghost use Rattle.disjoint.specs.Forest.{of};
 ghost use Rattle.cellstate.specs.Labels.{cell_of, depth_of};

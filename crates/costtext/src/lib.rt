@@ -1,4 +1,6 @@
 // What a resource's lane says of a cell, as text. Each function answers the place after what it put.
+#![tactic(auto)]
+
 ghost use Rattle.page.specs.Puts.{Puts, Room};
 ghost use Rattle.costtext.specs.Costs.{cost_text, cost_at};
 

@@ -1,4 +1,6 @@
 // What a call that counts answers, access of a rectangle, of many, and the fields call, and the same in numbers alone, as the static library gives it back.
+#![tactic(auto)]
+
 ghost use Rattle.std.specs.Prelude.{◌≡◌};
 ghost use Rattle.walkgraph.specs.FieldsPromise.{joined};
 ghost use Rattle.countanswer.specs.Answers.{listed_of, joined_of};

@@ -1,4 +1,6 @@
 // A text for a caller's buffer: all of it, or nothing.
+#![tactic(auto)]
+
 ghost use Rattle.delivery.specs.Delivery.{Delivers};
 
 use page::bytes;

@@ -1,4 +1,6 @@
 // The numbers of the fields from the disjoint set of resources, and the buffers that end as 0.
+#![tactic(auto)]
+
 mod number;
 
 ghost use Rattle.std.specs.Prelude.{◌≡◌, length};

@@ -1,4 +1,6 @@
 // A number in a text and the one byte that must follow it, a space or LF.
+#![tactic(auto)]
+
 ghost use Rattle.std.specs.Prelude.{◌≡◌, false};
 ghost use Rattle.decimal.specs.Numbers.{is_digit, ReadsFollowed};
 ghost use Rattle.integers.specs.Answers.{integer_found};

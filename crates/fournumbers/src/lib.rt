@@ -1,4 +1,6 @@
 // A rectangle among numbers in fours.
+#![tactic(auto)]
+
 ghost use Rattle.std.specs.Prelude.{◌≡◌, ◌+◌, ◌*◌, ◌≤◌, length};
 ghost use Rattle.walkgraph.specs.Painting.{rectangle};
 ghost use Rattle.fournumbers.specs.Corners.{corners_of};

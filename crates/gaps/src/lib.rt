@@ -1,4 +1,6 @@
 // The gap of a value to an interval, octile cost, and the inside of a window; a column as row intervals count it.
+#![tactic(auto)]
+
 ghost use Rattle.std.specs.Prelude.{◌≡◌, ◌+◌, ◌≤◌};
 ghost use Rattle.walkgraph.specs.Window.{gap, octile};
 ghost use Rattle.cells.specs.Boxes.{reach, box_of};

@@ -1,4 +1,6 @@
 // The half cost of a lane, and back.
+#![tactic(auto)]
+
 ghost use Rattle.std.specs.Prelude.{◌≡◌, ◌≤◌};
 ghost use Rattle.walkgraph.specs.Lanes.{bias, lane_of};
 ghost use Rattle.halfcost.specs.Costs.{cost_of};

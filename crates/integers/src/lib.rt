@@ -1,4 +1,6 @@
 // Decimal numbers of 32 bits in a text, below 0 with a minus. One text is accepted for each number.
+#![tactic(auto)]
+
 ghost use Rattle.std.specs.Prelude.{◌≡◌, ◌≤◌, eqb, pos, neg_ℤ, get_or};
 ghost use Rattle.decimal.specs.Numbers.{Limited, Reads};
 ghost use Rattle.integers.specs.Answers.{integer_found};

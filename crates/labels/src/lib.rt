@@ -1,2 +1,4 @@
 // Two labels that meet.
+#![tactic(auto)]
+
 pub mod meet;

@@ -1,4 +1,6 @@
 // One lane of a cell: what it takes from its neighbours on each way along a row, and whether it stayed the same.
+#![tactic(auto)]
+
 ghost use Rattle.std.specs.Prelude.{◌≡◌, ◌+◌, ◌≤◌, ◌<◌, length};
 ghost use Rattle.lane.specs.Levels.{level, level_at};
 ghost use Rattle.onelane.specs.Takes.{SlantFits, slant_at, out_at, back_at};

@@ -1,4 +1,6 @@
 // The lines of a room text by a reader over it. The prover's own walk covers no function over such a struct: each is thin, and proved by hand.
+#![tactic(auto)]
+
 ghost use Rattle.std.specs.Prelude.{◌≤◌};
 ghost use Rattle.roomlines.specs.Forms.{ReadsCount};
 ghost use Rattle.roomlines.specs.Fours.{ReadsFour};

@@ -1,4 +1,6 @@
 // Where a ring box ends: on the map, and before a window's end.
+#![tactic(auto)]
+
 ghost use Rattle.std.specs.Prelude.{◌≡◌, ◌+◌, ◌-◌, ◌≤◌, min};
 
 use cells::edge;

@@ -1,4 +1,6 @@
 // A row of a ring as runs of cells beside the body.
+#![tactic(auto)]
+
 ghost use Rattle.std.specs.Prelude.{◌≡◌, ◌≤◌};
 ghost use Rattle.cells.specs.Boxes.{box_of};
 ghost use Rattle.ringruns.specs.Runs.{OnGrid, row_runs};

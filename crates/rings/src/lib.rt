@@ -1,2 +1,4 @@
 // The rings of resources.
+#![tactic(auto)]
+
 pub mod ring;

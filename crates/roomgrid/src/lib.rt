@@ -1,4 +1,6 @@
 // The section of a room text that has the map: the count of its rows, and then the rows.
+#![tactic(auto)]
+
 ghost use Rattle.roomrows.specs.Rows.{CellsFit};
 ghost use Rattle.roomgrid.specs.Grids.{TakesGrid};
 ghost use Rattle.roomgrid.specs.Answers.{grid_found};

@@ -1,4 +1,6 @@
 // The rows of a map in a room text, all of one length, read and stored as cells in a lent buffer.
+#![tactic(auto)]
+
 ghost use Rattle.std.specs.Prelude.{◌≡◌, map, ◌+◌, ◌≤◌, ◌<◌, length, take, drop};
 ghost use Rattle.std.proofs.lemmas.List.Edits.{sets};
 ghost use Rattle.textlines.specs.Lines.{LineAt};

@@ -1,4 +1,6 @@
 // The roots of all members at once.
+#![tactic(auto)]
+
 ghost use Rattle.disjoint.specs.Forest.{Forest};
 ghost use Rattle.roots.specs.Roots.{AtRoots};
 

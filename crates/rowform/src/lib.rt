@@ -1,4 +1,6 @@
 // A row of a map in a room text: `.` is walkable and `#` is not.
+#![tactic(auto)]
+
 ghost use Rattle.std.specs.Prelude.{◌≡◌, ◌≤◌, length};
 ghost use Rattle.rowform.specs.Rows.{is_cell, JudgesRow};
 

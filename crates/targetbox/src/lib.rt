@@ -1,4 +1,6 @@
 // The cells of a call's target box, and how many there are.
+#![tactic(auto)]
+
 ghost use Rattle.std.specs.Prelude.{◌≡◌};
 ghost use Rattle.fournumbers.specs.Corners.{corners_of};
 ghost use Rattle.cells.specs.Boxes.{box_of, InMap};

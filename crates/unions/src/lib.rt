@@ -1,2 +1,4 @@
 // The disjoint set: joining classes.
+#![tactic(auto)]
+
 pub mod union;

@@ -1,4 +1,6 @@
 // The lanes of all cells before any starts: unreachable.
+#![tactic(auto)]
+
 ghost use Rattle.std.specs.Prelude.{◌≡◌, ℕ, ◌≤◌, length};
 ghost use Rattle.walkgraph.specs.Lists.{placed};
 ghost use Rattle.lane.specs.Levels.{level_at};

@@ -1,4 +1,6 @@
 // The edges of the window along one axis.
+#![tactic(auto)]
+
 ghost use Rattle.std.specs.Prelude.{◌≡◌, ◌≤◌};
 ghost use Rattle.walkgraph.specs.Window.{floor_half, window_low, window_high};
 ghost use Rattle.cells.specs.Boxes.{reach};

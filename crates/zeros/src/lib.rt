@@ -1,4 +1,6 @@
 // Buffers that end as 0.
+#![tactic(auto)]
+
 ghost use Rattle.zeros.specs.Zeros.{Zero, Cleared};
 
 // Makes every entry 0.

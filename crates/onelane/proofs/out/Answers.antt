@@ -71,10 +71,10 @@ returns c =
     let c7 = c4 in
     let s = c7 in
     let a = s.args in
-    let slant = read c7.slant.result (sfits_of c7.slant.type-inv) ∙ c7.slant.ensures in
-    let corner = read c7.diagonal.result (sfits_of c7.diagonal.type-inv) ∙ c7.diagonal.ensures ∙ ap (λ n. saturated n 707) slant in
-    let over = read c4.straight.result (sfits_of c4.straight.type-inv) ∙ c4.straight.ensures ∙ ap (λ n. saturated n 500) (lane_read a.lanes.now (a.over + a.k) (sfits_of c4.straight-arg.given)) in
-    let fed-over = read c3.least.result (sfits_of c3.least.type-inv) ∙ c3.least.ensures ∙ ap₂ min over corner in
-    let fed = read c2.least2.result (sfits_of c2.least2.type-inv) ∙ c2.least2.ensures ∙ ap₂ min (lane_read a.lanes.now (a.i + a.k) (sfits_of c4.least-arg.given)) fed-over in
-    let beside = read c1.straight2.result (sfits_of c1.straight2.type-inv) ∙ c1.straight2.ensures ∙ ap (λ n. saturated n 500) (read a.beside s.ranges.beside) in
-    read c.least-2.result (sfits_of c.least-2.type-inv) ∙ c.least-2.ensures ∙ ap₂ min fed beside ∙ open-gate _
+    let slant = read c7.slant.result (sfits_of c7.slant.type_inv) ∙ c7.slant.ensures in
+    let corner = read c7.diagonal-corner.result (sfits_of c7.diagonal-corner.type_inv) ∙ c7.diagonal-corner.ensures ∙ ap (λ n. saturated n 707) slant in
+    let over = read c4.straight.result (sfits_of c4.straight.type_inv) ∙ c4.straight.ensures ∙ ap (λ n. saturated n 500) (lane_read a.lanes.now (a.over + a.k) (sfits_of c4.straight-arg-1.given)) in
+    let fed-over = read c3.least.result (sfits_of c3.least.type_inv) ∙ c3.least.ensures ∙ ap₂ min over corner in
+    let fed = read c2.least-fed.result (sfits_of c2.least-fed.type_inv) ∙ c2.least-fed.ensures ∙ ap₂ min (lane_read a.lanes.now (a.i + a.k) (sfits_of c4.least-arg-1.given)) fed-over in
+    let beside = read c1.straight-2.result (sfits_of c1.straight-2.type_inv) ∙ c1.straight-2.ensures ∙ ap (λ n. saturated n 500) (read a.beside s.ranges.beside) in
+    read c.least-2.result (sfits_of c.least-2.type_inv) ∙ c.least-2.ensures ∙ ap₂ min fed beside ∙ open-gate _

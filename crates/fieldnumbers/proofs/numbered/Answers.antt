@@ -1,0 +1,12 @@
+-- `fieldnumbers::numbered`: the roots, the numbers, and the other buffers cleared.
+use mathlib.Core.Path.{◌∙◌, sym}
+use Rattle.fieldnumbers.proofs.numbered.Goals as goal
+
+pub rooted-requires : goal.rooted-requires
+rooted-requires c = c.requires.0
+
+pub number-count-requires : goal.number-count-requires
+number-count-requires c = let g = c.rooted.ensures in (g.rooted, c.requires.1 ∙ sym g.size)
+
+pub returns : goal.returns
+returns c = record { roots = _; rooted = c.rooted.ensures; numbers = c.number-count.ensures; cleared = c.clear.ensures }
