@@ -8,7 +8,7 @@ use fieldanswer;
 // What a field call leads to. Where it is accepted, number and place are 0, and the window with its lanes and the
 // sweep count follow. Where it is refused, number and place are the table's, and the rest is 0.
 #[repr(C)]
-#[derive(Drop)]
+#[derive(Clone, Copy)]
 pub struct FieldAnswer {
     pub number: u32,
     pub place: u32,

@@ -1,7 +1,7 @@
 // Boxes of cells.
 
 // Cells from left to right and top to bottom, ends included.
-#[derive(Drop)]
+#[derive(Clone, Copy)]
 pub struct CellBox {
     pub left: usize,
     pub top: usize,

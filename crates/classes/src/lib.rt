@@ -1,4 +1,6 @@
 // The fields of the resources of an accepted call, in buffers of exactly the used lengths.
+#![tactic(auto)]
+
 ghost use Rattle.std.specs.Prelude.{◌≡◌, length};
 ghost use Rattle.seeds.specs.Sown.{input_of};
 ghost use Rattle.seeds.specs.Sowing.{MaySeed};

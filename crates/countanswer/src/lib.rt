@@ -23,7 +23,7 @@ pub fn found(fields: usize) -> Answer
 // What a call leads to that counts. Where it is accepted, number and place are 0, and how many there are follows.
 // Where it is refused, number and place are the table's, and the count is 0.
 #[repr(C)]
-#[derive(Drop)]
+#[derive(Clone, Copy)]
 pub struct CountAnswer {
     pub number: u32,
     pub place: u32,

@@ -1,4 +1,6 @@
 // The fields call's refusals, 1, 3, 8, 7: from lengths and shared slices alone.
+#![tactic(auto)]
+
 ghost use Rattle.std.specs.Prelude.{◌≡◌, not};
 ghost use Rattle.walkgraph.specs.Refusals.{short_join, join_verdict};
 ghost use Rattle.judge.specs.Verdicts.{verdict_of};
@@ -9,7 +11,7 @@ use badgrid;
 use judge::verdict::Verdict;
 
 // The lengths of the lent buffers.
-#[derive(Drop)]
+#[derive(Clone, Copy)]
 pub struct Lent {
     pub states: usize,
     pub queue: usize,

@@ -1,4 +1,6 @@
 // Lines of four numbers in a room text, read and stored in a lent buffer: one, and as many as a count says.
+#![tactic(auto)]
+
 ghost use Rattle.std.specs.Prelude.{◌≡◌, ◌∷◌, [], ◌+◌, ◌≤◌, length};
 ghost use Rattle.std.proofs.lemmas.List.Edits.{sets};
 ghost use Rattle.fourlines.specs.Storing.{BufferFits, TakesFour, TakesFours};

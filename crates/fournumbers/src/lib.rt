@@ -6,7 +6,7 @@ ghost use Rattle.walkgraph.specs.Painting.{rectangle};
 ghost use Rattle.fournumbers.specs.Corners.{corners_of};
 
 // The four numbers of a rectangle.
-#[derive(Drop)]
+#[derive(Clone, Copy)]
 pub struct Corners {
     pub left: i32,
     pub top: i32,

@@ -10,7 +10,7 @@ use gaps;
 use window::record::Window;
 
 // What decides which columns of one row are inside: the boxes, and the row's gaps to them.
-#[derive(Drop)]
+#[derive(Clone, Copy)]
 pub struct RowGaps {
     pub sources: CellBox,
     pub targets: CellBox,

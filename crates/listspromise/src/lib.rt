@@ -1,4 +1,6 @@
 // What access of many rectangles promises, and whether its buffers are long enough.
+#![tactic(auto)]
+
 ghost use Rattle.std.specs.Prelude.{◌≡◌, not};
 ghost use Rattle.listspromise.specs.AccessListsPromise.{short_lists};
 

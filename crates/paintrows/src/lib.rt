@@ -1,4 +1,6 @@
 // Rows of walk bytes painted: bytes that become 0, unwalkable.
+#![tactic(auto)]
+
 ghost use Rattle.std.specs.Prelude.{◌≡◌, ℕ, ◌+◌, ◌<◌, length};
 ghost use Rattle.walkgraph.specs.Lists.{placed};
 ghost use Rattle.window.specs.Fills.{entries, zeros, rows_placed};

@@ -1,3 +1,5 @@
 // The moves from a cell that need a look.
+#![tactic(auto)]
+
 pub mod list;
 mod pick;

@@ -1,4 +1,6 @@
 // What a call leads to: a refusal, nothing, or a field to make. From lengths and shared slices alone.
+#![tactic(auto)]
+
 pub mod site;
 
 ghost use Rattle.std.specs.Prelude.{◌≡◌, ◌≤◌};
@@ -17,7 +19,7 @@ use window::record;
 use window::record::Window;
 
 // The lengths of the lent buffers.
-#[derive(Drop)]
+#[derive(Clone, Copy)]
 pub struct Lent {
     pub lanes: usize,
     pub walk: usize,

@@ -3,7 +3,7 @@ use cells::boxes::CellBox;
 use window::record::Window;
 
 // The map's size, the box around all ring boxes, the target box, and the window.
-#[derive(Drop)]
+#[derive(Clone, Copy)]
 pub struct Site {
     pub width: usize,
     pub height: usize,

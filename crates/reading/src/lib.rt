@@ -9,7 +9,7 @@ use windowrecord;
 
 // A part of the lent lanes: where it starts, and how long it is. Both are 0 for a cell outside.
 #[repr(C)]
-#[derive(Drop)]
+#[derive(Clone, Copy)]
 pub struct Part {
     pub start: usize,
     pub length: usize,

@@ -1,4 +1,6 @@
 // The sections of a room text that are rectangles: blockers, resources and the target box, read one after another and stored in a lent buffer.
+#![tactic(auto)]
+
 ghost use Rattle.fourlines.specs.Storing.{BufferFits};
 ghost use Rattle.rectangles.specs.Readings.{TakesEnd, TakesTail};
 ghost use Rattle.rectangles.specs.Answers.{end_found, tail_found};

@@ -1,4 +1,6 @@
 // The field call's refusals 1 to 6, in the table's order: from lengths and shared slices alone.
+#![tactic(auto)]
+
 ghost use Rattle.std.specs.Prelude.{◌≡◌, ◌/◌, ◌≤◌, length};
 ghost use Rattle.walkgraph.specs.Refusals.{accepted};
 ghost use Rattle.rings.specs.Rings.{corners};

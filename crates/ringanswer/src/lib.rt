@@ -1,4 +1,6 @@
 // What access of a rectangle answers once its ring is found: the list of its walkable cells, or refusal 7.
+#![tactic(auto)]
+
 ghost use Rattle.std.specs.Prelude.{length};
 ghost use Rattle.cells.specs.Boxes.{box_of};
 ghost use Rattle.ringruns.specs.Runs.{OnMap};

@@ -1,4 +1,6 @@
 // Whether a cell of the ring box starts its lane: it is walkable, and not in the body.
+#![tactic(auto)]
+
 ghost use Rattle.std.specs.Prelude.{◌≡◌, not, ◌&&◌, eqb, leb};
 ghost use Rattle.walkgraph.specs.Map.{in_box};
 ghost use Rattle.cells.specs.Boxes.{box_of};

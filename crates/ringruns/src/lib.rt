@@ -8,7 +8,7 @@ ghost use Rattle.ringruns.specs.Runs.{OnGrid, row_runs};
 use cells::boxes::CellBox;
 
 // Two runs of cells: before the body and after it, or a whole row and none. Each by the index of its first cell.
-#[derive(Drop)]
+#[derive(Clone, Copy)]
 pub struct Runs {
     pub first: usize,
     pub before: usize,

@@ -1,4 +1,6 @@
 // A section of a room text: its count, and then so many lines of four numbers, read and stored in a lent buffer.
+#![tactic(auto)]
+
 ghost use Rattle.std.specs.Prelude.{◌≤◌};
 ghost use Rattle.fourlines.specs.Storing.{BufferFits};
 ghost use Rattle.sections.specs.Storing.{TakesSection};

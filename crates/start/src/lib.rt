@@ -1,4 +1,6 @@
 // Where lanes start: at the inside, walkable ring cells of their resource.
+#![tactic(auto)]
+
 mod ringbox;
 mod stretch;
 

@@ -1,4 +1,6 @@
 // A strip: eight lanes of one cell, by value. What it does, it does lane by lane as `onelane` says.
+#![tactic(auto)]
+
 ghost use Rattle.std.specs.Prelude.{◌≡◌, ◌+◌, ◌≤◌, length};
 ghost use Rattle.std.proofs.Math.Seq.{paste};
 ghost use Rattle.lane.specs.Levels.{level_at};

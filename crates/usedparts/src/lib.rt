@@ -1,4 +1,6 @@
 // The fields of an accepted call in the used parts of the buffers that it is lent.
+#![tactic(auto)]
+
 ghost use Rattle.std.specs.Prelude.{◌≡◌};
 ghost use Rattle.walkgraph.specs.Refusals.{accepted};
 ghost use Rattle.walkgraph.specs.FieldsPromise.{fields_verdict, FieldsMade};

@@ -1,2 +1,4 @@
 // The window of a field call.
+#![tactic(auto)]
+
 pub mod record;

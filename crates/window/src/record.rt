@@ -9,7 +9,7 @@ use cells::boxes::CellBox;
 use windowedges;
 
 // The cells from (left, top) on, width by height, with so many lanes each.
-#[derive(Drop)]
+#[derive(Clone, Copy)]
 pub struct Window {
     pub left: usize,
     pub top: usize,

@@ -1,4 +1,6 @@
 // Lines of a sheet that begin with a word: a word and a number, and the window's. Each function answers the place after the line.
+#![tactic(auto)]
+
 ghost use Rattle.page.specs.Puts.{Puts, Room};
 ghost use Rattle.page.specs.Lines.{word_line, window_line};
 
