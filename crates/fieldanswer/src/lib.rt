@@ -1,4 +1,6 @@
 // What the field call answers: where a field is made, and where none is.
+#![tactic(auto)]
+
 ghost use Rattle.std.specs.Prelude.{◌≡◌};
 ghost use Rattle.walkgraph.specs.Promise.{made};
 ghost use Rattle.window.specs.Windows.{as_record};

@@ -1,4 +1,6 @@
 // The flags of a window, row by row.
+#![tactic(auto)]
+
 ghost use Rattle.std.specs.Prelude.{◌≡◌, ◌+◌, length};
 ghost use Rattle.walkgraph.specs.Lists.{placed};
 ghost use Rattle.window.specs.Fills.{entries, window_rows};

@@ -1,4 +1,6 @@
 // Versions of rows, and what each row last pulled: before the first sweep, and after the last.
+#![tactic(auto)]
+
 ghost use Rattle.std.specs.Prelude.{◌≡◌, ℕ, ◌+◌, ◌-◌, ◌≤◌, min, length};
 ghost use Rattle.walkgraph.specs.Lists.{placed};
 ghost use Rattle.window.specs.Fills.{entries};

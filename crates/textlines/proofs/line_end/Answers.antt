@@ -1,5 +1,4 @@
 -- `textlines::line_end`: no LF among the bytes that were passed.
-use Prim.Native.Nat.{◌-◌}
 use native.Mathlib.Omega.{arith}
 use Rattle.textlines.specs.Answers.{line_found}
 use Rattle.textlines.proofs.Lines.{without_none, without_more, without_ended, without_unended}

@@ -1,0 +1,11 @@
+-- `intervals::rows::outside_after`: the column is not before the first inside one, and not inside.
+use mathlib.Core.Path.{◌≡◌}
+use Prim.Native.Nat.{◌+◌, ◌-◌}
+use native.Mathlib.Omega.{arith}
+use borrow.Author.Tests.{lt-ltb, le-ltb}
+use Rattle.intervals.specs.Intervals.{inside_gaps}
+use Rattle.intervals.proofs.rows.outside_after.Goals.{Then-window-first}
+use Rattle.intervals.proofs.rows.outside_after.Goals as goal
+
+pub returns-then-window-first : goal.returns-then-window-first
+returns-then-window-first c = rw (le-ltb _ _ c.if-window-first.true)

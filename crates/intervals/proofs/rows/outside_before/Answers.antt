@@ -1,0 +1,11 @@
+-- `intervals::rows::outside_before`: the column is a window column, and not inside.
+use mathlib.Core.Path.{◌≡◌}
+use Prim.Native.Nat.{◌+◌, ◌-◌}
+use native.Mathlib.Omega.{arith}
+use borrow.Author.Tests.{lt-ltb, le-ltb}
+use Rattle.intervals.specs.Intervals.{inside_gaps}
+use Rattle.intervals.proofs.rows.outside_before.Goals.{Then-window-column}
+use Rattle.intervals.proofs.rows.outside_before.Goals as goal
+
+pub returns-then-window-column : goal.returns-then-window-column
+returns-then-window-column c = rw (le-ltb _ _ c.if-window-column.true)
