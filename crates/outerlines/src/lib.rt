@@ -1,4 +1,6 @@
 // The lines of a sheet before and after those of the target cells, put on a page. Each function answers the place after what it put.
+#![tactic(auto)]
+
 ghost use Rattle.window.specs.Windows.{as_record};
 ghost use Rattle.page.specs.Puts.{Puts, Room};
 ghost use Rattle.outerlines.specs.Outer.{head_lines, field_lines, group_lines, FieldsRoom, GroupsRoom, PutsWithin};

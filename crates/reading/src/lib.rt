@@ -1,4 +1,6 @@
 // Reading a cell of a field: by the window's record, which the caller may have made up, and the lanes that were lent to the field call.
+#![tactic(auto)]
+
 ghost use Rattle.std.specs.Prelude.{◌≡◌, ◌&&◌, ◌-◌, leb, ltb, length};
 ghost use Rattle.walkgraph.specs.Reading.{fits, in_record, read_part};
 ghost use Rattle.window.specs.Windows.{as_record};

@@ -38,7 +38,7 @@ example_formed = record {
   at_least_one = omega arith;
   row_count = omega arith;
   blocker_count = omega arith;
-  resource_count_lem = omega arith;
+  resource_count = omega arith;
   blockers = nothing;
   resources = more (record { left = fits 16 (omega arith); top = fits 8 (omega arith); right = fits 24 (omega arith); bottom = fits 16 (omega arith) }) nothing;
   targets = record { left = fits 0 (omega arith); top = fits 0 (omega arith); right = fits 4 (omega arith); bottom = fits 0 (omega arith) };

@@ -87,7 +87,7 @@ module _ {text cells-before cells-after : List ℕ} {width height from : ℕ} (g
       at_least_one = omega (arith, g.low, g.number);
       row_count = omega (arith, g.high, g.number);
       blocker_count = omega (arith, t.blockers_high, t.blockers_number);
-      resource_count_lem = omega (arith, t.resources_high, t.resources_number);
+      resource_count = omega (arith, t.resources_high, t.resources_number);
       blockers = t.blockers_fit;
       resources = t.resources_fit;
       targets = t.targets_fit;

@@ -28,7 +28,7 @@ pub record Formed (room : Room) : Type 0 where
   pub at_least_one : 1 ≤ length room.rows
   pub row_count : length room.rows ≤ 2147483647
   pub blocker_count : length room.blockers ≤ 2147483647
-  pub resource_count_lem : length room.resources ≤ 2147483647
+  pub resource_count : length room.resources ≤ 2147483647
   pub blockers : AllFit room.blockers
   pub resources : AllFit room.resources
   pub targets : FourFits room.targets

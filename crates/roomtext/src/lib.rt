@@ -1,4 +1,6 @@
 // A room text, read section by section in one pass. What is read is stored in lent buffers, and a text that breaks the form is answered with its first line that does.
+#![tactic(auto)]
+
 ghost use Rattle.roomtext.specs.Readings.{ReadsRoom, RoomFits};
 ghost use Rattle.roomtext.specs.Answers.{room_found};
 

@@ -1,4 +1,6 @@
 // A window's record, which the caller may have made up: whether a buffer of lanes holds it, and where the lanes of a cell start.
+#![tactic(auto)]
+
 ghost use Rattle.std.specs.Prelude.{◌≡◌, ◌+◌, ◌*◌, ◌-◌, ◌≤◌};
 ghost use Rattle.walkgraph.specs.Reading.{fits};
 ghost use Rattle.window.specs.Windows.{as_record};

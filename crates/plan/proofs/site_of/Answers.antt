@@ -62,7 +62,7 @@ pub returns : goal.returns
 returns c =
     let e = c.window_of-window.ensures in
     record {
-      good = record { on_map = window-of-requires c _; over = over _ _ _ e; count = few _ _ _ e c.requires.count };
+      good = record { on_map = window_of-window-requires (goal.at.returns c).After-cells_of-targets; over = over _ _ _ e; count = few _ _ _ e c.requires.count };
       columns = omega arith;
       rows = omega arith;
       from = c.sources-sources.ensures;
