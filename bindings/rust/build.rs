@@ -1,9 +1,9 @@
-//! Links the static library that `rt staticlib cerandool` writes, or says that it is missing.
+//! Links the static library that `rt lib` writes in crates/cerandool, or says that it is missing.
 
 use std::{env, path::Path};
 
 /// From this package's folder.
-const LIBRARY_FOLDER: &str = "../../target/staticlib";
+const LIBRARY_FOLDER: &str = "../../crates/cerandool/out";
 
 fn main() {
     let package = env::var("CARGO_MANIFEST_DIR").expect("Cargo names the package's folder");
@@ -13,7 +13,7 @@ fn main() {
     println!("cargo::rerun-if-changed={}", library.display());
     if !library.is_file() {
         println!(
-            "cargo::error=target/staticlib/libcerandool.a is missing: run `rt staticlib cerandool` first"
+            "cargo::error=crates/cerandool/out/libcerandool.a is missing: run `rt lib` in crates/cerandool first"
         );
         return;
     }

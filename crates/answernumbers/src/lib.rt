@@ -1,4 +1,6 @@
 // The answer of a field call in numbers alone, as the static library gives it back.
+#![tactic(auto)]
+
 ghost use Rattle.std.specs.Prelude.{◌≡◌};
 ghost use Rattle.fieldanswer.specs.Answers.{answer_of};
 ghost use Rattle.answernumbers.specs.Numbers.{numbers_of, InU32};

@@ -1,4 +1,6 @@
 // One row at eight lanes: one strip a cell.
+#![tactic(auto)]
+
 ghost use Rattle.std.specs.Prelude.{length};
 ghost use Rattle.lane.specs.Levels.{level_at};
 ghost use Rattle.ways.specs.Row.{OutDone, BackDone};

@@ -1,4 +1,6 @@
 // The ground of a field: its walk bytes, flags and row intervals, and its lanes before the first sweep.
+#![tactic(auto)]
+
 ghost use Rattle.std.specs.Prelude.{◌≡◌, ◌/◌, length};
 ghost use Rattle.cells.specs.Boxes.{box_of};
 ghost use Rattle.lane.specs.Levels.{level_at};
@@ -13,7 +15,6 @@ use intervals::rows;
 use paintrows;
 use plan::site::Site;
 use start;
-use unreachable;
 use walkbytes::{maprows, painting};
 use window::record;
 

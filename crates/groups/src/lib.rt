@@ -1,5 +1,7 @@
 // Which resources of a room are one field: their access cells are listed, and the fields call is given the lists.
 // Both calls work in arrays of zeros that have room for any room that the program takes.
+#![tactic(auto)]
+
 ghost use Rattle.std.specs.Prelude.{◌≡◌};
 ghost use Rattle.walkgraph.specs.Refusals.{accepted};
 ghost use Rattle.walkgraph.specs.FieldsPromise.{fields_verdict};

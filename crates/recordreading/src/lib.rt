@@ -1,4 +1,6 @@
 // Reading a cell of a field by the five numbers of a window record, as a caller in C or Rust hands them over.
+#![tactic(auto)]
+
 ghost use Rattle.std.specs.Prelude.{◌≡◌};
 ghost use Rattle.walkgraph.specs.Reading.{read_part};
 ghost use Rattle.reading.specs.Parts.{as_part};

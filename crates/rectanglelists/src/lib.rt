@@ -1,4 +1,6 @@
 // The lists of the access cells of many rectangles, one after another, with an end for each.
+#![tactic(auto)]
+
 ghost use Rattle.std.specs.Prelude.{length};
 ghost use Rattle.manyrectangles.specs.Listing.{lent, AllFit, AllListed};
 

@@ -1,4 +1,6 @@
 // The whole sheet, put on a page: the lines before those of the target cells, these, and the lines after them.
+#![tactic(auto)]
+
 ghost use Rattle.cells.specs.Boxes.{box_of};
 ghost use Rattle.window.specs.Windows.{as_record};
 ghost use Rattle.outerlines.specs.Outer.{PutsWithin};

@@ -1,4 +1,6 @@
 // The lines of the target cells, row by row, put on a page. Each function answers the place after what it put.
+#![tactic(auto)]
+
 ghost use Rattle.cells.specs.Boxes.{box_of};
 ghost use Rattle.window.specs.Windows.{as_record};
 ghost use Rattle.page.specs.Puts.{Puts};

@@ -1,4 +1,6 @@
 // What the program makes of a text: too long, broken at a line, too large, or a room.
+#![tactic(auto)]
+
 ghost use Rattle.textverdict.specs.Verdicts.{JudgesText, TextFits};
 ghost use Rattle.textverdict.specs.Answers.{verdict_of};
 

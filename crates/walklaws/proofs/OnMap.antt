@@ -6,7 +6,7 @@ use native.Mathlib.Omega.{arith}
 use lib.Dec.{T}
 use Rattle.walkgraph.specs.Map.{Box, In, in_box}
 use Rattle.walkgraph.specs.Walk.{distance, Step, straight, diagonal, Walk, here, on}
-use Rattle.walkgraph.specs.Window.{Inside, window, inside}
+use Rattle.walkgraph.specs.Window.{Inside, window}
 use Rattle.walkgraph.specs.Field.{Both, WalkCosts}
 use Rattle.walkgraph.specs.Sweep.{PaddedWindow, written, padded}
 use Rattle.walkgraph.proofs.Tests.{and_left, and_right, and_pair}

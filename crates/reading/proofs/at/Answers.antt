@@ -21,6 +21,9 @@ overflow_add-end c = let h = ends (goal.at.overflow_add-end c).After-cell_part-p
 pub offset_bounds-lanes-start : goal.offset_bounds-lanes-start
 offset_bounds-lanes-start c = let h = ends (goal.at.offset_bounds-lanes-start c).After-cell_part-part in search rules
 
+pub slice_bounds-result-end : goal.slice_bounds-result-end
+slice_bounds-result-end c = let h = ends (goal.at.slice_bounds-result-end c).After-cell_part-part in search rules
+
 pub returns : goal.returns
 unfolding part_of
 returns c =

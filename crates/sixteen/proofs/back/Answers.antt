@@ -108,3 +108,30 @@ returns c =
     let e : c.loop-n.n ≡ c.args.count = omega arith in
     let t = c.loop-n.invariant.2 in
     record { levels = rw e at t.levels; tells = marked_tells t.marked c.changed.ensures }
+
+pub loop-n-preserved : goal.loop-n-preserved
+unfolding back_cell
+loop-n-preserved c =
+    let m = c.loop-n in
+    let a = c.args in
+    let p = place (goal.at.loop-n-preserved c).In-loop-n in
+    let t = m.invariant.2 in
+    let d = m.lanes in
+    let i = m.i - 16 in
+    let new = c.back-new.result in
+    let new2 = c.back-new2.result in
+    let fl : ℕ → ℕ = flag_at a.flags.now in
+    let F : ℕ → ℕ = level_at a.lanes.now in
+    let walk : (j : ℕ) (beside : ℕ → ℕ) (k : ℕ) → k < 8 → back_at (level_at d) (level_at a.gates.now) j (beside k) c.walk_gate-walk_gate.result k ≡ back_levels (fl (m.f - 1)) (level_at d) j beside k = λ j beside k h. gated_back c.requires.0 (fl (m.f - 1)) _ j (level_at d) beside c.walk_gate-walk_gate.ensures k h in
+    let cell : ℕ → ℕ = back_levels (fl (m.f - 1)) (level_at d) i (λ k. level_at d (i + 16 + k)) in
+    let news : HasLevels 8 new cell = record { each = λ k h. c.back-new.ensures.each k h ∙ walk i (level_at m.beside) k h ∙ rw (p.here, m.invariant.3.each k h) } in
+    let news2 : HasLevels 8 new2 (λ k. cell (8 + k)) = record { each = λ k h. c.back-new2.ensures.each k h ∙ walk (i + 8) (level_at m.beside2) k h ∙ second_back (fl (m.f - 1)) (level_at d) i (level_at m.beside2) k (rw p.here (m.invariant.4.each k h)) } in
+    let e : level_at c.put-still2.new.lanes ≡ placed (level_at d) i 16 cell = two_stored d i cell new news _ _ new2 c.put-still.ensures.0 c.put-still2.ensures.0 p.own (long (goal.at.loop-n-preserved c).After-back-new) (long2 (goal.at.loop-n-preserved c).After-back-new2) news2 in (
+      cell_next _ _ c.loop-n-test.true,
+      c.put-still2.auto.lanes ∙ c.put-still.auto.lanes ∙ m.invariant.1,
+      back_next 16 fl a.past F t e
+          (two_marked d i cell new news F m.same t.marked _ new2 c.put-still.result c.put-still2.result c.put-still.ensures.0 (strips (goal.at.loop-n-preserved c).In-loop-n (cells_fit (goal.at.loop-n-preserved c).Start) (place (goal.at.loop-n-preserved c).In-loop-n)).first (long (goal.at.loop-n-preserved c).After-back-new) news2
+          (λ k h. back_ahead 16 fl a.past F t p.before (i + k) (below i 16 _ k h p.here)) c.put-still.ensures.1 c.put-still2.ensures.1),
+      record { each = λ k h. news.each k h ∙ carried _ _ cell i 16 i k e refl (within_two k h) },
+      record { each = λ k h. news2.each k h ∙ carried _ _ cell i 16 i (8 + k) e refl (second_within k h) },
+    )

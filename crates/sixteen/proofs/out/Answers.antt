@@ -108,6 +108,32 @@ overflow_step-n c = cell_fits _ _ c.loop-n-test.true c.ranges.count
 pub loop-n-smaller : goal.loop-n-smaller
 loop-n-smaller c = cell_nearer _ _ c.loop-n-test.true
 
+pub loop-n-preserved : goal.loop-n-preserved
+unfolding out_cell
+loop-n-preserved c =
+    let m = c.loop-n in
+    let a = c.args in
+    let p = place (goal.at.loop-n-preserved c).In-loop-n (cells_fit (goal.at.loop-n-preserved c).Start) (bytes_fit (goal.at.loop-n-preserved c).Start) in
+    let t = m.invariant.2 in
+    let d = m.lanes in
+    let i = m.i in
+    let new = c.out-new.result in
+    let new2 = c.out-new2.result in
+    let fl : ℕ → ℕ = flag_at a.flags.now in
+    let F : ℕ → ℕ = level_at a.lanes.now in
+    let cell : ℕ → ℕ = out_levels 16 a.down (fl (a.first + m.n)) (level_at d) i m.o (λ k. level_at d (i - 16 + k)) in
+    let news : HasLevels 8 new cell = record { each = λ k h. c.out-new.ensures.each k h ∙ rw (m.invariant.3.each k h) } in
+    let news2 : HasLevels 8 new2 (λ k. cell (8 + k)) = record { each = λ k h. c.out-new2.ensures.each k h ∙ second_out a.down (fl (a.first + m.n)) (level_at d) i m.o (level_at m.beside2) p.low k (m.invariant.4.each k h) } in
+    let e : level_at c.put-still2.new.lanes ≡ placed (level_at d) i 16 cell = two_stored d i cell new news _ _ new2 c.put-still.ensures.0 c.put-still2.ensures.0 p.own (long (goal.at.loop-n-preserved c).After-out-new) (long2 (goal.at.loop-n-preserved c).After-out-new2) news2 in (
+      cell_next _ _ c.loop-n-test.true,
+      c.put-still2.auto.lanes ∙ c.put-still.auto.lanes ∙ m.invariant.1,
+      out_next 16 fl a.down a.first a.feeding F t e
+          (two_marked d i cell new news F m.same t.marked _ new2 c.put-still.result c.put-still2.result c.put-still.ensures.0 (strips (goal.at.loop-n-preserved c).In-loop-n (cells_fit (goal.at.loop-n-preserved c).Start) (place (goal.at.loop-n-preserved c).In-loop-n (cells_fit (goal.at.loop-n-preserved c).Start) (bytes_fit (goal.at.loop-n-preserved c).Start))).own.first (long (goal.at.loop-n-preserved c).After-out-new) news2
+          (λ k h. out_ahead 16 fl a.down a.first a.feeding F t (i + k) (onward i k)) c.put-still.ensures.1 c.put-still2.ensures.1),
+      record { each = λ k h. news.each k h ∙ carried _ _ cell i 16 (i + 16 - 16) k e (returned i 16) (within_two k h) },
+      record { each = λ k h. news2.each k h ∙ carried _ _ cell i 16 (i + 16 - 16) (8 + k) e (returned i 16) (second_within k h) },
+    )
+
 pub changed-requires : goal.changed-requires
 changed-requires c = c.loop-n.invariant.2.marked.are
 

@@ -1,5 +1,4 @@
 -- `zeros::clear_u16`: the entries that the loop passed are 0.
-use Prim.Native.Nat.{◌-◌}
 use native.Mathlib.Omega.{arith}
 use Rattle.zeros.proofs.Clearing.{zeros_none, zeros_more, zeros_all}
 use Rattle.zeros.proofs.clear_u16.Goals as goal

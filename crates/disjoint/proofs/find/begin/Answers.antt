@@ -1,6 +1,5 @@
 -- `disjoint::find::begin`: the members that the loop passed are their own parents, of rank 0.
 use mathlib.Core.Path.{refl, ◌∙◌}
-use Prim.Native.Nat.{◌-◌}
 use native.Mathlib.Omega.{arith}
 use lib.ListN.{length-set}
 use Rattle.disjoint.proofs.Finding.{begun, entry_more}

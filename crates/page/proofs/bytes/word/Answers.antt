@@ -1,5 +1,4 @@
 -- `page::bytes::word`: the bytes that the loop passed are put.
-use Prim.Native.Nat.{◌-◌}
 use native.Mathlib.Omega.{arith}
 use Rattle.page.proofs.Putting.{puts_none, puts_length, word_room, word_more, word_all}
 use Rattle.page.proofs.bytes.word.Goals as goal

@@ -1,6 +1,6 @@
 -- `ringlists::run::count_run`: the walkable ones of the cells that the loop passed.
 use mathlib.Core.Path.{◌≡◌, sym, ap}
-use Prim.Native.Nat.{◌+◌, ◌-◌}
+use Prim.Native.Nat.{◌+◌}
 use native.Mathlib.Omega.{arith}
 use lib.ListN.{length}
 use Rattle.ringlists.proofs.Places.{run_none, run_counted, run_most}

@@ -1,6 +1,5 @@
 -- `ringlists::run::list_run`: the walkable ones of the cells that the loop passed are listed.
 use mathlib.Core.Path.{◌≡◌}
-use Prim.Native.Nat.{◌-◌}
 use native.Mathlib.Omega.{arith}
 use Rattle.ringlists.proofs.Places.{run_none, run_more, run_room}
 use Rattle.ringlists.proofs.Listing.{listed_none, listed_more, listed_length}

@@ -1,0 +1,45 @@
+-- `fields::call::fields`: judged, then refused with nothing written, or the fields found.
+use mathlib.Core.Path.{◌≡◌, sym, ◌∙◌, ap}
+use Rattle.walkgraph.specs.FieldsPromise.{lengths_of, fields_verdict, refuses, joins}
+use Rattle.judge.specs.Verdicts.{verdict_of}
+use Rattle.seeds.specs.Sown.{input_of}
+use Rattle.usedparts.specs.Lent.{lent}
+use Rattle.countanswer.specs.Answers.{joined_of}
+use Rattle.fields.proofs.call.fields.Goals.{After-judged-verdict}
+use Rattle.fields.proofs.call.fields.Goals as goal
+
+-- the verdict is the table's
+told : (c : After-judged-verdict) → fields_verdict ((let a = c.args in input_of a.width a.height a.cells.now a.indices.now a.ends.now)) ((let a = c.args in lent a.states.now a.queue.now a.parents.now a.ranks.now a.answers.now)) ≡ verdict_of c.judged-verdict.result
+unfolding fields_verdict lengths_of
+told c = sym c.judged-verdict.ensures
+
+pub returns-in-Refused : goal.returns-in-Refused
+unfolding joined_of verdict_of
+returns-in-Refused c = refuses (told (goal.at.returns-in-Refused c).After-judged-verdict ∙ ap verdict_of c.in-Refused.is)
+
+pub joined-count-requires : goal.joined-count-requires
+unfolding verdict_of
+joined-count-requires c = told (goal.at.joined-count-requires c).After-judged-verdict ∙ ap verdict_of c.in_default.is
+
+pub found-requires : goal.found-requires
+found-requires c = tt
+
+pub shape_of-states : goal.shape_of-states
+shape_of-states c = c.joined-count.auto.states
+
+pub shape_of-queue : goal.shape_of-queue
+shape_of-queue c = c.joined-count.auto.queue
+
+pub shape_of-parents : goal.shape_of-parents
+shape_of-parents c = c.joined-count.auto.parents
+
+pub shape_of-ranks : goal.shape_of-ranks
+shape_of-ranks c = c.joined-count.auto.ranks
+
+pub shape_of-answers : goal.shape_of-answers
+shape_of-answers c = c.joined-count.auto.answers
+
+pub returns : goal.returns
+unfolding verdict_of
+returns c =
+    rw c.found.ensures (joins (told (goal.at.returns c).After-judged-verdict ∙ ap verdict_of c.in_default.is) c.joined-count.ensures)

@@ -1,0 +1,46 @@
+-- `grounds::ground`: each fill finds what the one before left, and the flags find walk bytes that are 0 or 1.
+use native.Mathlib.Omega.{arith}
+use borrow.Author.Rules.{rules}
+use Rattle.window.specs.Fills.{entries}
+use Rattle.grounds.proofs.Grounds.{limits, site_copies, site_paints, site_flag_rows, walk_filled_lem, flags_filled_lem}
+use Rattle.grounds.proofs.ground.Goals as goal
+
+pub padded-count-requires : goal.padded-count-requires
+padded-count-requires c =
+    let g = c.requires.site in
+    let z = limits _ _ _ _ g.on_map _ g.over in
+    (z.width, z.height)
+
+pub paint_row-requires : goal.paint_row-requires
+paint_row-requires c = λ x h. search rules
+
+pub copy_rows-requires : goal.copy_rows-requires
+copy_rows-requires c =
+    let p = c.requires in
+    site_copies _ _ _ _ p.site.on_map _ p.site.over _ _ (omega (arith, p.map)) (omega (arith, p.walk_in))
+
+pub paint-requires : goal.paint-requires
+paint-requires c =
+    let p = c.requires in
+    let g = p.site in
+    (site_paints _ _ _ _ g.on_map _ g.over _ (omega (arith, p.walk_in)), g.on_map.wide, g.on_map.high)
+
+pub paint_row-requires-2 : goal.paint_row-requires-2
+paint_row-requires-2 c = λ x h. search rules
+
+pub flag_rows-requires : goal.flag_rows-requires
+flag_rows-requires c =
+    let p = c.requires in
+    let a = c.args in
+    let s = a.site in
+    let e = walk_filled_lem s.window s.width s.height a.cells.now a.blockers.now (entries a.walk.now) c.padded-count.result c.padded-count.ensures c.paint_row.ensures c.copy_rows.ensures c.paint.ensures in
+    site_flag_rows _ _ _ _ p.site.on_map _ p.site.over a.cells.now a.blockers.now (entries a.walk.now) _ _ p.bits e (omega (arith, p.walk_in)) (omega (arith, p.flags_in))
+
+pub returns : goal.returns
+returns c =
+    let a = c.args in
+    let s = a.site in
+    let n = c.padded-count in (
+      walk_filled_lem s.window s.width s.height a.cells.now a.blockers.now (entries a.walk.now) n.result n.ensures c.paint_row.ensures c.copy_rows.ensures c.paint.ensures,
+      flags_filled_lem s.window _ (entries a.flags.now) n.result n.ensures c.paint_row-2.ensures c.flag_rows.ensures,
+    )

@@ -1,0 +1,22 @@
+-- `groups::joined`: the fields call is accepted, so it finds fields.
+use mathlib.Core.Path.{sym}
+use Prim.Native.Nat.{ℕ}
+use lib.ListN.{length-replicate}
+use Rattle.seeds.specs.Sown.{input_of}
+use Rattle.usedparts.specs.Lent.{lent}
+use Rattle.countanswer.specs.Answers.{joined_of}
+use Rattle.groups.specs.Groups.{zero_join}
+use Rattle.groups.proofs.Calls.{join_made, join_found}
+use Rattle.groups.proofs.joined.Goals as goal
+
+pub slice_bounds-fields-end : goal.slice_bounds-fields-end
+slice_bounds-fields-end c = sym (length-replicate {A = ℕ} 3600 0)
+
+pub slice_bounds-fields-end-2 : goal.slice_bounds-fields-end-2
+slice_bounds-fields-end-2 c = sym (length-replicate {A = ℕ} 3600 0)
+
+pub slice_bounds-fields-end-3 : goal.slice_bounds-fields-end-3
+slice_bounds-fields-end-3 c = sym (length-replicate {A = ℕ} 8 0)
+
+pub slice_bounds-fields-end-4 : goal.slice_bounds-fields-end-4
+slice_bounds-fields-end-4 c = sym (length-replicate {A = ℕ} 8 0)

@@ -1,0 +1,21 @@
+-- `row::back`: by the lane count.
+use Rattle.row.proofs.Relax.{two_strips}
+use Rattle.row.proofs.row.back.Goals as goal
+
+pub back-requires : goal.back-requires
+back-requires c = (c.requires.0, rw c.if-lane_count-eq8.true at c.requires.2)
+
+pub shape_of-lanes-then-lane_count-eq8 : goal.shape_of-lanes-then-lane_count-eq8
+shape_of-lanes-then-lane_count-eq8 c = c.back.auto.lanes
+
+pub returns-then-lane_count-eq8 : goal.returns-then-lane_count-eq8
+returns-then-lane_count-eq8 c = rw c.if-lane_count-eq8.true c.back.ensures
+
+pub back-requires-2 : goal.back-requires-2
+back-requires-2 c = (c.requires.0, rw (two_strips c.requires.1 c.if-lane_count-eq8.false) at c.requires.2)
+
+pub shape_of-lanes : goal.shape_of-lanes
+shape_of-lanes c = c.back-2.auto.lanes
+
+pub returns : goal.returns
+returns c = rw (two_strips c.requires.1 c.if-lane_count-eq8.false) c.back-2.ensures
