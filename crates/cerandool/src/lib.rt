@@ -1,5 +1,7 @@
 // The static library's exports, for C and for Rust: the field call, reading a cell, access of a rectangle and of many,
 // the fields call, and the sheet of a room text. None requires anything of what it is given.
+#![tactic(auto)]
+
 ghost use Rattle.std.specs.Prelude.{◌≡◌, length};
 ghost use Rattle.walkgraph.specs.Reading.{read_part};
 ghost use Rattle.cells.specs.Boxes.{reach};

@@ -1,13 +1,11 @@
 -- The field call's promise from its plan: the call is refused, there is nothing to make, or the field is made at a site.
-use mathlib.Core.Path.{◌≡◌, sym, ◌∙◌, subst}
-use mathlib.Core.Logic.{◌⊎◌, ⊎_elim}
-use mathlib.Core.Bool.{Bool, true, ◌&&◌}
+use mathlib.Core.Path.{◌≡◌, refl, sym, ◌∙◌, subst}
+use mathlib.Core.Bool.{Bool, true, false, ◌&&◌}
 use Prim.Native.Nat.{ℕ, ◌+◌, ◌*◌, ◌≤◌}
 use native.Mathlib.Nat.{mul_comm}
 use native.Mathlib.Omega.{arith}
 use lib.ListN.{length}
 use lib.Dec.{T, leb, leb→le}
-use denote.Enum.Declared.{tag_of}
 use Rattle.walkgraph.specs.Buffers.{Call, Lent, FieldMade}
 use Rattle.walkgraph.specs.Reading.{no_window}
 use Rattle.walkgraph.specs.Refusals.{FieldInput, call_of}
@@ -18,7 +16,6 @@ use Rattle.window.specs.declared.record.Window.{Window}
 use Rattle.window.specs.Windows.{as_record}
 use Rattle.window.specs.Fills.{AreBits}
 use Rattle.plan.specs.declared.Lent as plan
-use Rattle.plan.specs.contracts.Plan.{the_type}
 use Rattle.plan.specs.declared.Plan.{Plan}
 use Rattle.plan.specs.declared.Plan.TheVariants.{Refused, Nothing, Make}
 use Rattle.plan.specs.declared.site.Site.{Site}
@@ -39,6 +36,13 @@ pub record Roomy (w : Window) (l : plan.Lent) : Type 0 where
 
 all_seven : (a b c d e f g : Bool) → T (a && b && c && d && e && f && g) → T a × T b × T c × T d × T e × T f × T g
 all_seven true true true true true true true t = (tt, tt, tt, tt, tt, tt, tt)
+all_seven false b c d e f g t = elim t [ ]
+all_seven true false c d e f g t = elim t [ ]
+all_seven true true false d e f g t = elim t [ ]
+all_seven true true true false e f g t = elim t [ ]
+all_seven true true true true false f g t = elim t [ ]
+all_seven true true true true true false g t = elim t [ ]
+all_seven true true true true true true false t = elim t [ ]
 
 roomy : (w : Window) (l : plan.Lent) → T (enough w l) → Roomy w l
 unfolding enough
@@ -65,11 +69,11 @@ module _ (i : FieldInput) (lengths : plan.Lent) (before : Lent) (long : Lengths 
   unfolding PlanOf
   call_nothing p = nothing (p.judged before long) p.none
 
-  pub call_unmade : (p : Plan) → (tag_of the_type p ≡ 0) ⊎ (tag_of the_type p ≡ 1) → PlanOf i lengths p → FieldPromise reach i before before (unmade_answer p i.lanes)
+  pub call_unmade : (p : Plan) → ((s : Site) → p ≡ Make s → ⊥) → PlanOf i lengths p → FieldPromise reach i before before (unmade_answer p i.lanes)
   unfolding unmade_answer
   call_unmade (Refused number place) h p = call_refused p
   call_unmade Nothing h p = call_nothing p
-  call_unmade (Make s) h p = absurd (⊎_elim (λ e. omega (arith, e)) (λ e. omega (arith, e)) h)
+  call_unmade (Make s) h p = absurd (h s refl)
 
   module _ (s : Site) (p : PlanOf i lengths (Make s)) where
     to_make : ToMake i lengths s

@@ -1,4 +1,6 @@
 // The field call: judges its arguments, then answers with a refusal, with nothing made, or with the field made.
+#![tactic(auto)]
+
 ghost use Rattle.walkgraph.specs.Promise.{FieldPromise};
 ghost use Rattle.cells.specs.Boxes.{reach};
 ghost use Rattle.rings.specs.Rings.{corners};

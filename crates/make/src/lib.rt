@@ -1,4 +1,6 @@
 // The field made: the ground, the start, the sweeps.
+#![tactic(auto)]
+
 ghost use Rattle.walkgraph.specs.Buffers.{FieldMade};
 ghost use Rattle.make.specs.Makes.{lent, site_call, MakeFits};
 

@@ -1,9 +1,15 @@
 // The program: reads a room text from standard input, or one from each file that its arguments name, and writes its sheet, or the line of its refusal, to standard output.
-ghost use Rattle.std.specs.Prelude.{◌≤◌, ◌<◌, length, take};
+#![tactic(auto)]
+
+ghost use Rattle.std.specs.Prelude.{IfOk, ◌<◌, ◌≤◌, length, take};
+ghost use Rattle.std.specs.Io.KnownBytes.{Consumes, IsAtEnd};
 ghost use Rattle.sheets.specs.SheetText.{SheetOf};
 
-use libc::{STDIN_FILENO, STDOUT_FILENO};
 use roomlimits;
+use std::env::{Env, FillError};
+use std::io::Read;
+use std::rt::Files;
+use std::{fs, io};
 
 // Puts the sheet of a text at the start of a buffer that has room for every sheet; answers how many bytes it has.
 fn answer(text: &[u8], out: &mut [u8]) -> usize
@@ -14,42 +20,81 @@ fn answer(text: &[u8], out: &mut [u8]) -> usize
 }
 
 // Reads a file up to its end, or up to one byte more than the 8,192 that a room text has at most; answers how many bytes came.
-fn taken(file: i32, text: &mut [u8]) -> usize
+fn taken<R: Read>(file: &mut R, text: &mut [u8]) -> io::Result<usize>
     requires { 8192 < length text.old }
-    ensures { result ≤ length text.new }
+    ensures bound { IfOk result (λ count. count ≤ length text.new) }
+    ensures bytes { IfOk result (λ count. Consumes (R.remaining file.old) (R.remaining file.new) (take count text.new)) }
+    ensures end { IfOk result (λ count. count < length text.new → IsAtEnd (R.remaining file.new)) }
 {
-    io::read_full(file, text)
+    let mut done = 0;
+    while done < text.len() {
+        let count = file.read(&mut text[done..])?;
+        if count == 0 {
+            break;
+        }
+        done += count;
+    }
+    Ok(done)
 }
 
 // Writes the sheet of the text in a file.
-fn shown(file: i32) {
+fn shown(rt: &impl Print, file: &mut impl Read) -> io::Result<()> {
     let mut text = roomlimits::text();
     let mut out = roomlimits::sheet();
-    let count = taken(file, &mut text);
+    let count = taken(file, &mut text)?;
     let end = answer(&text[..count], &mut out);
-    io::write_all(STDOUT_FILENO, &out[..end]);
+    rt.write_all(&out[..end])
 }
 
-// Writes the sheet of the text in the file that an argument names, or says why the file cannot be read.
-fn named(argument: usize) {
-    let mut name = io::buffer();
-    let length = os::arg(argument, &mut name);
-    let file = os::open_read(&name[..length]);
-    if file < 0 {
-        os::fail(&name[..length]);
-        return;
+// The system's words for an error, without the number that std puts after them.
+fn words(said: &str) -> &str {
+    match said.split_once(" (os error ") {
+        Some((words, _number)) => words,
+        None => said,
     }
-    shown(file);
-    libc::close(file);
 }
 
-fn main() {
-    let count = os::arg_count();
-    if count < 2 {
-        shown(STDIN_FILENO);
-        return;
+// Says on standard error why a file cannot be opened.
+fn failed(rt: &(impl Eprint + AllocGlobal), name: &str, error: io::Error) -> io::Result<()> {
+    let said = format!(in rt.alloc(); "{error}")?;
+    let reason = words(said.as_str());
+    eprintln!(rt; "{name}: {reason}")
+}
+
+// Writes the sheet of the text in the file that an argument names, or says why the file cannot be opened; answers whether there is such an argument.
+fn named(
+    rt: &(impl Env + Files + Print + Eprint + AllocGlobal),
+    argument: usize,
+) -> io::Result<bool> {
+    let mut name = [0u8; 4096];
+    let length = match rt.arg(argument, &mut name) {
+        Ok(length) => length,
+        Err(FillError::NotPresent) => return Ok(false),
+        // No path is as long as the buffer. The empty name, which no file has, is said to be missing.
+        Err(FillError::TooLong) => 0,
+    };
+    match str::from_utf8(&name[..length]) {
+        Ok(name) => match fs::open(rt, name) {
+            Ok(mut file) => shown(rt, &mut file)?,
+            Err(error) => failed(rt, name, error)?,
+        },
+        // std opens files by UTF-8 names alone.
+        Err(_) => {
+            let name = String::from_utf8_lossy(rt.alloc(), &name[..length])?;
+            eprintln!(rt; "{name}: The name is not UTF-8")?;
+        }
     }
-    for argument in 1..count {
-        named(argument);
+    Ok(true)
+}
+
+fn main(rt: HostRuntime) -> io::Result<()> {
+    if !named(&rt, 1)? {
+        return shown(&rt, &mut rt.reader());
     }
+    for argument in 2..usize::MAX {
+        if !named(&rt, argument)? {
+            break;
+        }
+    }
+    Ok(())
 }

@@ -1,4 +1,6 @@
 // The library function of the program `sheet`: a room's text in, its sheet's text out.
+#![tactic(auto)]
+
 mod answersheet;
 mod drawing;
 mod roomsheet;

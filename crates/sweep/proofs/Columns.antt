@@ -115,7 +115,7 @@ module _ (lanes stride : ℕ) (flag : ℕ → ℕ) (down : Bool) (F : ℕ → �
       let e₂ = shift_right lanes k (y * stride + a) j (y * stride + x) (omega arith) in
       let e₃ : place + j ≡ y * stride + x = omega arith in
       let e₄ : suc (y * stride + x) ≡ y * stride + suc x = omega arith in
-      rw (e₁, e₂, e₃, e₄) at (Lanewise.back_at lanes flag out_levels own place (b - a) j k (omega arith) l)
+      rw (e₁, e₂, e₃, e₄) at (Lanewise.back_at_lem lanes flag out_levels own place (b - a) j k (omega arith) l)
 
   pub back_elsewhere : (x v k : ℕ) → k < lanes → Elsewhere x v → both_levels (S k x v) ≡ F (S k x v)
   back_elsewhere x v k l e =

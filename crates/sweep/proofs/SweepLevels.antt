@@ -81,7 +81,7 @@ module _ (m : PaddedWindow) (shut : PaddingShut m) (g : Ground) (ground : Ground
         loud = λ e. clash (sym e ∙ c);
       }
 
-  turns : {n : ℕ} {s u : State} → MidOf 0 s → n ≤ m.height → Turns g b fresh m.height s n u → MidOf n u
+  turns : {s : State} {n : ℕ} {u : State} → MidOf 0 s → n ≤ m.height → Turns g b fresh m.height s n u → MidOf n u
   turns i h none = i
   turns i h (more {n = n} {t = w} p v) =
       turn m shut g ground base high b fresh other number few t sized.wide closed alongs n (omega arith) w (turns i (omega arith) p)

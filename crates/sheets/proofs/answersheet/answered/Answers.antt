@@ -1,0 +1,46 @@
+-- `sheets::answersheet::answered`: the answer is a refusal, whose line is put, or the field, whose resources' fields are found and whose sheet is put.
+use native.Mathlib.Omega.{arith}
+use Rattle.walkgraph.specs.Promise.{refusal, made}
+use Rattle.window.specs.Windows.{as_record}
+use Rattle.fournumbers.specs.Corners.{corners_of}
+use Rattle.fieldanswer.specs.Answers.{answer_of}
+use Rattle.targetbox.specs.TargetBox.{Natural, cells_of}
+use Rattle.sheets.specs.Shown.{ShownFits, AnswerFits, puts_line, puts_shown}
+use Rattle.sheets.proofs.FieldShown.{sheet_room, shown_put, line_page, made_parts}
+use Rattle.sheets.proofs.RoomDrawn.{line_room, line_put}
+use Rattle.sheets.proofs.answersheet.answered.Goals.{In-Made, In-Refused}
+use Rattle.sheets.proofs.answersheet.answered.Goals as goal
+
+-- refused
+told : (c : In-Refused) → let a = c.args in AnswerFits a.width a.height a.cells.now a.resources.now (corners_of a.targets) a.page.now (refusal c.in-Refused.number c.in-Refused.place)
+unfolding answer_of
+told c = rw c.in-Refused.is at c.requires
+
+-- made
+done : (c : In-Made) → let a = c.args in Natural (corners_of a.targets) × ShownFits a.width a.height a.cells.now a.resources.now (as_record c.in-Made.window) c.in-Made.sweeps (cells_of (corners_of a.targets)) a.page.now
+unfolding answer_of
+done c = made_parts (rw c.in-Made.is at c.requires)
+
+pub refusal-requires : goal.refusal-requires
+refusal-requires c = line_room _ _ (omega (arith, c.known_told-1.given)) (omega (arith, c.known_told-1.given)) _ (line_page (told (goal.at.refusal-requires c).In-Refused))
+
+pub returns-in-Refused : goal.returns-in-Refused
+unfolding answer_of
+returns-in-Refused c =
+    rw c.in-Refused.is (puts_line (line_put _ _ (omega (arith, c.known_told-1.given)) (omega (arith, c.known_told-1.given)) c.refusal.ensures))
+
+pub groups-fields-requires : goal.groups-fields-requires
+groups-fields-requires c = (done (goal.at.groups-fields-requires c).In-Made).1.groups
+
+pub cells_of-boxed-requires : goal.cells_of-boxed-requires
+cells_of-boxed-requires c = (done (goal.at.cells_of-boxed-requires c).In-Made).0
+
+pub sheet-requires : goal.sheet-requires
+sheet-requires c =
+    let g = c.groups-fields in
+    rw c.cells_of-boxed.ensures (sheet_room g.ensures (done (goal.at.sheet-requires c).In-Made).1 (omega (arith, g.auto)))
+
+pub returns-in-Made : goal.returns-in-Made
+unfolding answer_of
+returns-in-Made c =
+    rw c.in-Made.is (puts_shown (shown_put c.groups-fields.ensures (rw c.cells_of-boxed.ensures at c.sheet.ensures)))

@@ -1,0 +1,58 @@
+-- `sheets::drawing::draw`: the field call answers, and the sheet shows what it answers.
+use mathlib.Core.Path.{refl, sym}
+use Prim.Native.Nat.{ℕ}
+use lib.IntN.{ℤ, pos}
+use lib.ListN.{length-replicate}
+use borrow.Author.Rules.{sfits_of}
+use Rattle.walkgraph.specs.Promise.{FieldPromise}
+use Rattle.cells.specs.Boxes.{reach}
+use Rattle.fournumbers.specs.Corners.{corners_of}
+use Rattle.plan.specs.Plans.{input_of}
+use Rattle.make.specs.Makes.{lent}
+use Rattle.fieldanswer.specs.Answers.{answer_of}
+use Rattle.sheets.specs.Drawings.{zero_field}
+use Rattle.sheets.proofs.Accepted.{can_answer}
+use Rattle.sheets.proofs.RoomDrawn.{as_given, answer_put}
+use Rattle.sheets.proofs.drawing.draw.Goals.{After-field-found}
+use Rattle.sheets.proofs.drawing.draw.Goals as goal
+
+-- what it promises of the target box as it was given
+promised : (c : After-field-found) → FieldPromise reach ((let a = c.args in input_of a.width a.height a.cells.now 8 a.blockers.now a.resources.now (corners_of a.targets))) zero_field ((lent c.field-found.new.lane_values c.field-found.new.walk c.field-found.new.flags c.field-found.new.rows c.field-found.new.versions c.field-found.new.pulled_down c.field-found.new.pulled_up)) (answer_of c.field-found.result)
+promised c =
+    let a = c.args in
+    let t = a.targets in
+    let told = c.struct_told-4-1.given in
+    as_given a.width a.height a.cells.now a.blockers.now a.resources.now t.left t.top t.right t.bottom zero_field ((let c.field-found.new.1.1.1.1.1.1.1.1.1.1 = c.field-found.new.1.1.1.1.1.1.1.1.1.1 in lent c.field-found.new.lane_values c.field-found.new.walk c.field-found.new.flags c.field-found.new.rows c.field-found.new.versions c.field-found.new.pulled_down c.field-found.new.pulled_up)) (answer_of c.field-found.result)
+    (sfits_of told.0.1) (sfits_of told.1.0.1) (sfits_of told.1.1.0.1) (sfits_of told.1.1.1.0.1) c.field-found.ensures
+
+pub slice_bounds-field-end : goal.slice_bounds-field-end
+slice_bounds-field-end c = sym (length-replicate {A = ℤ} 30752 (pos 0))
+
+pub slice_bounds-field-end-2 : goal.slice_bounds-field-end-2
+slice_bounds-field-end-2 c = sym (length-replicate {A = ℕ} 3844 0)
+
+pub slice_bounds-field-end-3 : goal.slice_bounds-field-end-3
+slice_bounds-field-end-3 c = sym (length-replicate {A = ℕ} 3844 0)
+
+pub slice_bounds-field-end-4 : goal.slice_bounds-field-end-4
+slice_bounds-field-end-4 c = sym (length-replicate {A = ℕ} 120 0)
+
+pub slice_bounds-field-end-5 : goal.slice_bounds-field-end-5
+slice_bounds-field-end-5 c = sym (length-replicate {A = ℕ} 62 0)
+
+pub slice_bounds-field-end-6 : goal.slice_bounds-field-end-6
+slice_bounds-field-end-6 c = sym (length-replicate {A = ℕ} 62 0)
+
+pub slice_bounds-field-end-7 : goal.slice_bounds-field-end-7
+slice_bounds-field-end-7 c = sym (length-replicate {A = ℕ} 62 0)
+
+pub slice_bounds-answered-end : goal.slice_bounds-answered-end
+slice_bounds-answered-end c = rw c.field-found.auto.lane_values (sym (length-replicate {A = ℤ} 30752 (pos 0)))
+
+pub answered-requires : goal.answered-requires
+answered-requires c =
+    can_answer ((let a = c.args in input_of a.width a.height a.cells.now 8 a.blockers.now a.resources.now (corners_of a.targets))) _ c.requires refl {after = (lent c.field-found.new.lane_values c.field-found.new.walk c.field-found.new.flags c.field-found.new.rows c.field-found.new.versions c.field-found.new.pulled_down c.field-found.new.pulled_up)} (promised (goal.at.answered-requires c).After-field-found)
+
+pub returns : goal.returns
+returns c =
+    answer_put ((let a = c.args in input_of a.width a.height a.cells.now 8 a.blockers.now a.resources.now (corners_of a.targets))) {after = (lent c.field-found.new.lane_values c.field-found.new.walk c.field-found.new.flags c.field-found.new.rows c.field-found.new.versions c.field-found.new.pulled_down c.field-found.new.pulled_up)} (promised (goal.at.returns c).After-field-found) c.answered.ensures

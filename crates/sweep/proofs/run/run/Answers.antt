@@ -1,0 +1,49 @@
+-- `run::run`: after some sweeps. They stay below the number with which the run stops, which fits a usize: the measure is what is left of that type.
+use mathlib.Core.Path.{refl, ◌∙◌}
+use Prim.Native.Nat.{◌-◌}
+use native.Mathlib.Omega.{arith}
+use Rattle.sweep.proofs.Runs.{run_start, run_next, run_ends}
+use Rattle.sweep.proofs.run.run.Goals as goal
+
+pub loop-changed-init : goal.loop-changed-init
+loop-changed-init c = (refl, refl, refl, refl, (c.requires.3, run_start c.requires.3))
+
+pub alternate-changed-requires : goal.alternate-changed-requires
+alternate-changed-requires c =
+    let p = c.requires in
+    let i = c.loop-changed.invariant in
+    rw (i.0, i.1, i.2, i.3) (p.0, p.1, p.2)
+
+pub overflow_add-count : goal.overflow_add-count
+overflow_add-count c = omega (arith, c.loop-changed.invariant.4.0.few, c.loop-changed.invariant.4.1.below)
+
+pub ends-requires : goal.ends-requires
+ends-requires c = tt
+
+pub loop-changed-smaller : goal.loop-changed-smaller
+loop-changed-smaller c = omega (arith, c.loop-changed.invariant.4.0.few, c.loop-changed.invariant.4.1.below)
+
+pub loop-changed-preserved : goal.loop-changed-preserved
+loop-changed-preserved c =
+    let i = c.loop-changed.invariant in (
+      c.alternate-changed.auto.lanes ∙ i.0,
+      c.alternate-changed.auto.versions ∙ i.1,
+      c.alternate-changed.auto.pulled_down ∙ i.2,
+      c.alternate-changed.auto.pulled_up ∙ i.3,
+      (i.4.0, run_next i.4.0 i.4.1 c.alternate-changed.ensures c.ends.ensures c.if-ends.false),
+    )
+
+pub shape_of-lanes : goal.shape_of-lanes
+shape_of-lanes c = c.alternate-changed.auto.lanes ∙ c.loop-changed.invariant.0
+
+pub shape_of-versions : goal.shape_of-versions
+shape_of-versions c = c.alternate-changed.auto.versions ∙ c.loop-changed.invariant.1
+
+pub shape_of-pulled_down : goal.shape_of-pulled_down
+shape_of-pulled_down c = c.alternate-changed.auto.pulled_down ∙ c.loop-changed.invariant.2
+
+pub shape_of-pulled_up : goal.shape_of-pulled_up
+shape_of-pulled_up c = c.alternate-changed.auto.pulled_up ∙ c.loop-changed.invariant.3
+
+pub returns : goal.returns
+returns c = let i = c.loop-changed.invariant in run_ends i.4.0 i.4.1 c.alternate-changed.ensures c.ends.ensures c.if-ends.true
