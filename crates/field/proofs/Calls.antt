@@ -1,11 +1,13 @@
 -- The field call's promise from its plan: the call is refused, there is nothing to make, or the field is made at a site.
-use mathlib.Core.Path.{◌≡◌, refl, sym, ◌∙◌, subst}
+use mathlib.Core.Path.{◌≡◌, sym, ◌∙◌, subst}
+use mathlib.Core.Logic.{◌⊎◌, ⊎_elim}
 use mathlib.Core.Bool.{Bool, true, false, ◌&&◌}
 use Prim.Native.Nat.{ℕ, ◌+◌, ◌*◌, ◌≤◌}
 use native.Mathlib.Nat.{mul_comm}
 use native.Mathlib.Omega.{arith}
 use lib.ListN.{length}
 use lib.Dec.{T, leb, leb→le}
+use denote.Enum.Declared.{tag_of}
 use Rattle.walkgraph.specs.Buffers.{Call, Lent, FieldMade}
 use Rattle.walkgraph.specs.Reading.{no_window}
 use Rattle.walkgraph.specs.Refusals.{FieldInput, call_of}
@@ -16,6 +18,7 @@ use Rattle.window.specs.declared.record.Window.{Window}
 use Rattle.window.specs.Windows.{as_record}
 use Rattle.window.specs.Fills.{AreBits}
 use Rattle.plan.specs.declared.Lent as plan
+use Rattle.plan.specs.contracts.Plan.{the_type}
 use Rattle.plan.specs.declared.Plan.{Plan}
 use Rattle.plan.specs.declared.Plan.TheVariants.{Refused, Nothing, Make}
 use Rattle.plan.specs.declared.site.Site.{Site}
@@ -69,11 +72,11 @@ module _ (i : FieldInput) (lengths : plan.Lent) (before : Lent) (long : Lengths 
   unfolding PlanOf
   call_nothing p = nothing (p.judged before long) p.none
 
-  pub call_unmade : (p : Plan) → ((s : Site) → p ≡ Make s → ⊥) → PlanOf i lengths p → FieldPromise reach i before before (unmade_answer p i.lanes)
+  pub call_unmade : (p : Plan) → (tag_of the_type p ≡ 0) ⊎ (tag_of the_type p ≡ 1) → PlanOf i lengths p → FieldPromise reach i before before (unmade_answer p i.lanes)
   unfolding unmade_answer
   call_unmade (Refused number place) h p = call_refused p
   call_unmade Nothing h p = call_nothing p
-  call_unmade (Make s) h p = absurd (h s refl)
+  call_unmade (Make s) h p = absurd (⊎_elim (λ e. omega (arith, e)) (λ e. omega (arith, e)) h)
 
   module _ (s : Site) (p : PlanOf i lengths (Make s)) where
     to_make : ToMake i lengths s

@@ -1,4 +1,4 @@
-// The lines of a room text by a reader over it. The prover's own walk covers no function over such a struct: each is thin, and proved by hand.
+// The lines of a room text by a reader over it, which remembers how far it has come. Each function is thin, without a branch or a loop.
 #![tactic(auto)]
 
 ghost use Rattle.std.specs.Prelude.{◌≤◌};

@@ -1,4 +1,4 @@
-// A reader over a room text, which remembers how far it has come. The prover's own walk covers no function over such a struct: each is thin, and proved by hand.
+// A reader over a room text, which remembers how far it has come. Each function is thin.
 #![tactic(auto)]
 
 ghost use Rattle.std.specs.Prelude.{◌≡◌};

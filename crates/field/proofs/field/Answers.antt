@@ -1,5 +1,7 @@
 -- `field::field`: what the plan says of the call, and what is made of it.
-use mathlib.Core.Path.{refl}
+use mathlib.Core.Path.{◌≡◌, refl}
+use mathlib.Core.Logic.{◌⊎◌, inl, inr}
+use denote.Enum.Declared.{tag_of}
 use lib.IntN.{ℤ}
 use lib.ListN.{length}
 use mir.Syntax.{w32}
@@ -9,7 +11,10 @@ use Rattle.walkgraph.specs.Buffers.{Lent}
 use Rattle.walkgraph.specs.Refusals.{FieldInput}
 use Rattle.rings.specs.Rings.{corners}
 use Rattle.plan.specs.declared.Lent as plan
+use Rattle.plan.specs.contracts.Plan.{the_type}
 use Rattle.plan.specs.declared.Plan.{Plan}
+use Rattle.plan.specs.declared.Plan.TheVariants.{Refused, Nothing, Make}
+use Rattle.plan.specs.declared.site.Site.{Site}
 use Rattle.plan.specs.Plans.{input_of, Lengths, PlanOf}
 use Rattle.make.specs.Makes.{lent}
 use Rattle.field.proofs.Calls.{call_unmade, make_fits, call_made}
@@ -51,10 +56,16 @@ planned : (s : Start) (p : Plan) → PlanOf (input_at s (to_z w32 (of_z w32 s.ar
 planned s p e =
     rw (to_z-of_z w32 s.args.left s.ranges.left, to_z-of_z w32 s.args.top s.ranges.top, to_z-of_z w32 s.args.right s.ranges.right, to_z-of_z w32 s.args.bottom s.ranges.bottom) at e
 
+-- a plan that makes no field
+other : (p : Plan) → ((site : Site) → p ≡ Make site → ⊥) → (tag_of the_type p ≡ 0) ⊎ (tag_of the_type p ≡ 1)
+other (Refused number place) h = inl refl
+other Nothing h = inr refl
+other (Make site) h = absurd (h site refl)
+
 pub returns-in_default : goal.returns-in_default
 returns-in_default c =
     let s = (goal.at.returns-in_default c).Start in
-    rw c.unmade.ensures (call_unmade (input s) (lengths s) (before s) (same_lengths s) c.plan_of-found.result c.in_default.not-Make (planned s c.plan_of-found.result c.plan_of-found.ensures))
+    rw c.unmade.ensures (call_unmade (input s) (lengths s) (before s) (same_lengths s) c.plan_of-found.result (other _ c.in_default.not-Make) (planned s c.plan_of-found.result c.plan_of-found.ensures))
 
 pub make-sweeps-requires : goal.make-sweeps-requires
 make-sweeps-requires c =

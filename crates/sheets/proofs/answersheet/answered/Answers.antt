@@ -21,14 +21,6 @@ done : (c : In-Made) → let a = c.args in Natural (corners_of a.targets) × Sho
 unfolding answer_of
 done c = made_parts (rw c.in-Made.is at c.requires)
 
-pub refusal-requires : goal.refusal-requires
-refusal-requires c = line_room _ _ (omega (arith, c.known_told-1.given)) (omega (arith, c.known_told-1.given)) _ (line_page (told (goal.at.refusal-requires c).In-Refused))
-
-pub returns-in-Refused : goal.returns-in-Refused
-unfolding answer_of
-returns-in-Refused c =
-    rw c.in-Refused.is (puts_line (line_put _ _ (omega (arith, c.known_told-1.given)) (omega (arith, c.known_told-1.given)) c.refusal.ensures))
-
 pub groups-fields-requires : goal.groups-fields-requires
 groups-fields-requires c = (done (goal.at.groups-fields-requires c).In-Made).1.groups
 
@@ -44,3 +36,11 @@ pub returns-in-Made : goal.returns-in-Made
 unfolding answer_of
 returns-in-Made c =
     rw c.in-Made.is (puts_shown (shown_put c.groups-fields.ensures (rw c.cells_of-boxed.ensures at c.sheet.ensures)))
+
+pub refusal-requires : goal.refusal-requires
+refusal-requires c = line_room _ _ (omega arith) (omega arith) _ (line_page (told (goal.at.refusal-requires c).In-Refused))
+
+pub returns-in-Refused : goal.returns-in-Refused
+unfolding answer_of
+returns-in-Refused c =
+    rw c.in-Refused.is (puts_line (line_put _ _ (omega arith) (omega arith) c.refusal.ensures))

@@ -4,6 +4,8 @@ use Prim.Native.Nat.{ℕ}
 use lib.IntN.{ℤ, pos}
 use lib.ListN.{length-replicate}
 use borrow.Author.Rules.{sfits_of}
+use Rattle.walkgraph.specs.Buffers.{Lent}
+use Rattle.walkgraph.specs.Refusals.{FieldInput}
 use Rattle.walkgraph.specs.Promise.{FieldPromise}
 use Rattle.cells.specs.Boxes.{reach}
 use Rattle.fournumbers.specs.Corners.{corners_of}
@@ -13,16 +15,25 @@ use Rattle.fieldanswer.specs.Answers.{answer_of}
 use Rattle.sheets.specs.Drawings.{zero_field}
 use Rattle.sheets.proofs.Accepted.{can_answer}
 use Rattle.sheets.proofs.RoomDrawn.{as_given, answer_put}
-use Rattle.sheets.proofs.drawing.draw.Goals.{After-field-found}
+use Rattle.sheets.proofs.drawing.draw.Goals.{Start, After-field-found}
 use Rattle.sheets.proofs.drawing.draw.Goals as goal
 
+-- what the field call is given
+abbrev input : Start → FieldInput
+input s = let a = s.args in input_of a.width a.height a.cells.now 8 a.blockers.now a.resources.now (corners_of a.targets)
+
+-- and what it leaves
+abbrev after : After-field-found → Lent
+after c = let n = c.field-found.new in lent n.lane_values n.walk n.flags n.rows n.versions n.pulled_down n.pulled_up
+
 -- what it promises of the target box as it was given
-promised : (c : After-field-found) → FieldPromise reach ((let a = c.args in input_of a.width a.height a.cells.now 8 a.blockers.now a.resources.now (corners_of a.targets))) zero_field ((lent c.field-found.new.lane_values c.field-found.new.walk c.field-found.new.flags c.field-found.new.rows c.field-found.new.versions c.field-found.new.pulled_down c.field-found.new.pulled_up)) (answer_of c.field-found.result)
+promised : (c : After-field-found) → let a = c.args in
+    FieldPromise reach (input_of a.width a.height a.cells.now 8 a.blockers.now a.resources.now (corners_of a.targets)) zero_field (after c) (answer_of c.field-found.result)
 promised c =
     let a = c.args in
     let t = a.targets in
     let told = c.struct_told-4-1.given in
-    as_given a.width a.height a.cells.now a.blockers.now a.resources.now t.left t.top t.right t.bottom zero_field ((let c.field-found.new.1.1.1.1.1.1.1.1.1.1 = c.field-found.new.1.1.1.1.1.1.1.1.1.1 in lent c.field-found.new.lane_values c.field-found.new.walk c.field-found.new.flags c.field-found.new.rows c.field-found.new.versions c.field-found.new.pulled_down c.field-found.new.pulled_up)) (answer_of c.field-found.result)
+    as_given a.width a.height a.cells.now a.blockers.now a.resources.now t.left t.top t.right t.bottom zero_field (after c) (answer_of c.field-found.result)
     (sfits_of told.0.1) (sfits_of told.1.0.1) (sfits_of told.1.1.0.1) (sfits_of told.1.1.1.0.1) c.field-found.ensures
 
 pub slice_bounds-field-end : goal.slice_bounds-field-end
@@ -51,8 +62,10 @@ slice_bounds-answered-end c = rw c.field-found.auto.lane_values (sym (length-rep
 
 pub answered-requires : goal.answered-requires
 answered-requires c =
-    can_answer ((let a = c.args in input_of a.width a.height a.cells.now 8 a.blockers.now a.resources.now (corners_of a.targets))) _ c.requires refl {after = (lent c.field-found.new.lane_values c.field-found.new.walk c.field-found.new.flags c.field-found.new.rows c.field-found.new.versions c.field-found.new.pulled_down c.field-found.new.pulled_up)} (promised (goal.at.answered-requires c).After-field-found)
+    let d = (goal.at.answered-requires c).After-field-found in
+    can_answer (input (goal.at.answered-requires c).Start) _ c.requires refl {after = after d} (promised d)
 
 pub returns : goal.returns
 returns c =
-    answer_put ((let a = c.args in input_of a.width a.height a.cells.now 8 a.blockers.now a.resources.now (corners_of a.targets))) {after = (lent c.field-found.new.lane_values c.field-found.new.walk c.field-found.new.flags c.field-found.new.rows c.field-found.new.versions c.field-found.new.pulled_down c.field-found.new.pulled_up)} (promised (goal.at.returns c).After-field-found) c.answered.ensures
+    let d = (goal.at.returns c).After-field-found in
+    answer_put (input (goal.at.returns c).Start) {after = after d} (promised d) c.answered.ensures

@@ -21,12 +21,12 @@ room : (c : In-Accepted) → (let a = c.args in ReadFits (accepted c.in-Accepted
 room c of_read = room_read of_read.limits
 
 pub refusal-requires : goal.refusal-requires
-refusal-requires c = line_room _ _ (omega (arith, c.known_told-1.given)) (omega (arith, c.known_told-1.given)) _ c.requires.page_room
+refusal-requires c = line_room _ _ (omega arith) (omega arith) _ c.requires.page_room
 
 pub returns-in-Refused : goal.returns-in-Refused
 unfolding verdict_of
 returns-in-Refused c =
-    rw c.in-Refused.is (puts_line (line_put _ _ (omega (arith, c.known_told-1.given)) (omega (arith, c.known_told-1.given)) c.refusal.ensures))
+    rw c.in-Refused.is (puts_line (line_put _ _ (omega arith) (omega arith) c.refusal.ensures))
 
 pub overflow_add-count : goal.overflow_add-count
 overflow_add-count c = rectangles_few (room (goal.at.overflow_add-count c).In-Accepted (read (goal.at.overflow_add-count c).In-Accepted))
