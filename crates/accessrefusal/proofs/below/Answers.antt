@@ -1,6 +1,5 @@
 -- `accessrefusal::below`: the indices that are left are cells exactly where all of them are.
 use mathlib.Core.Path.{refl, sym, ◌∙◌}
-use Prim.Native.Nat.{◌-◌}
 use native.Mathlib.Omega.{arith}
 use lib.ListN.{get_or}
 use lib.Dec.{ltb}

@@ -1,7 +1,6 @@
 -- `accessrefusal::ends_ok`: `last` and the ends that are left fall, and end, as all of them do.
 use mathlib.Core.Path.{◌≡◌, refl, sym, ◌∙◌}
 use mathlib.Core.Bool.{true}
-use Prim.Native.Nat.{◌-◌}
 use native.Mathlib.Omega.{arith}
 use Rattle.walkgraph.specs.Refusals.{never_fall}
 use Rattle.accessrefusal.proofs.Ends.{end_passed, last_passed, end_falls, ends_passed, last_end_lem}

@@ -1,6 +1,5 @@
 -- `badgrid::greatest`: `high` and the bytes that are left have the greatest byte of all.
 use mathlib.Core.Path.{sym, ◌∙◌}
-use Prim.Native.Nat.{◌-◌}
 use native.Mathlib.Omega.{arith}
 use Rattle.badgrid.proofs.Passed.{one_more, all_passed}
 use Rattle.badgrid.proofs.greatest.Goals as goal

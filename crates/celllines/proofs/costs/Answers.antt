@@ -1,6 +1,5 @@
 -- `celllines::costs`: the costs of the resources that the loop passed are put.
 use mathlib.Core.Path.{◌≡◌}
-use Prim.Native.Nat.{◌-◌}
 use native.Mathlib.Omega.{arith}
 use Rattle.page.proofs.Putting.{puts_none, puts_more, puts_length, room_next}
 use Rattle.costtext.specs.Costs.{cost_at}

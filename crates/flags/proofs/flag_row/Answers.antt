@@ -1,6 +1,5 @@
 -- `flags::flag_row`: the flags that the loop passed are made, and the others stay.
 use mathlib.Core.Path.{◌≡◌, refl}
-use Prim.Native.Nat.{◌-◌}
 use native.Mathlib.Omega.{arith}
 use lib.ListN.{length-set}
 use Rattle.window.specs.Fills.{entries}

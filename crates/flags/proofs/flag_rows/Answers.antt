@@ -1,6 +1,6 @@
 -- `flags::flag_rows`: the rows that the loop passed are made; where the next one starts.
 use mathlib.Core.Path.{◌≡◌, refl}
-use Prim.Native.Nat.{◌+◌, ◌*◌, ◌-◌}
+use Prim.Native.Nat.{◌+◌, ◌*◌}
 use native.Mathlib.Omega.{arith}
 use Rattle.window.specs.Fills.{entries, window_rows}
 use Rattle.flags.specs.Flags.{flag_rows}

@@ -1,6 +1,5 @@
 -- `fourlines::fours`: the lines so far are read and stored.
 use mathlib.Core.Path.{◌∙◌}
-use Prim.Native.Nat.{◌-◌}
 use native.Mathlib.Omega.{arith}
 use borrow.Author.Rules.{rules}
 use Rattle.fourlines.specs.Storing.{TakesFour, line_up_to}

@@ -6,7 +6,6 @@ use mir.Syntax.{w16, w32}
 use mir.Val.{SFits, to_z}
 use mir.ValLaws.{to_z-of_z, to_z_pos}
 use mir.Facts.{sfits_widen}
-use borrow.Author.Rules.{rules}
 use Rattle.walkgraph.specs.Lanes.{bias, lane_of}
 use Rattle.walkgraph.proofs.Lanes.{lane_fits, lane_rules}
 use Rattle.halfcost.proofs.lane_of.Goals.{Start}

@@ -1,6 +1,5 @@
 -- `outerlines::fields`: the lines of the resources that the loop passed are put; a u16 has at most five digits.
 use mathlib.Core.Path.{◌≡◌}
-use Prim.Native.Nat.{◌-◌}
 use native.Mathlib.Omega.{arith}
 use lib.ListN.{get_or}
 use Rattle.page.specs.Lines.{field_line}

@@ -1,6 +1,5 @@
 -- `paintrows::paint_row`: the bytes that the loop passed are 0, and the others stay.
 use mathlib.Core.Path.{◌≡◌, refl}
-use Prim.Native.Nat.{◌-◌}
 use native.Mathlib.Omega.{arith}
 use lib.ListN.{length-set}
 use Rattle.window.specs.Fills.{zeros}

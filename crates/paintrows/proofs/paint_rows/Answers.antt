@@ -1,6 +1,6 @@
 -- `paintrows::paint_rows`: the rows that the loop passed are 0; where the next one starts.
 use mathlib.Core.Path.{◌≡◌, refl}
-use Prim.Native.Nat.{◌+◌, ◌-◌}
+use Prim.Native.Nat.{◌+◌}
 use native.Mathlib.Omega.{arith}
 use Rattle.window.specs.Fills.{entries}
 use Rattle.window.proofs.Fills.{rows_none, rows_more, next_row, rows_up}

@@ -1,6 +1,6 @@
 -- `rectanglelists::list_all`: the access cells of the rectangles that the loop passed are listed, and so are their ends.
 use mathlib.Core.Path.{◌≡◌}
-use Prim.Native.Nat.{◌+◌, ◌-◌, ◌/◌}
+use Prim.Native.Nat.{◌+◌, ◌/◌}
 use native.Mathlib.Omega.{arith}
 use lib.ListN.{length}
 use Rattle.ringlists.specs.Lists.{Listed}

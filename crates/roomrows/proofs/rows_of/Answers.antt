@@ -1,6 +1,5 @@
 -- `roomrows::rows_of`: the rows so far are read and stored.
 use mathlib.Core.Bool.{true}
-use Prim.Native.Nat.{◌-◌}
 use native.Mathlib.Omega.{arith}
 use borrow.Author.Rules.{rules}
 use Rattle.rowform.specs.Rows.{JudgesRow}

@@ -1,5 +1,4 @@
 -- `roots::rooted`: the members that the loop passed have their roots as parents.
-use Prim.Native.Nat.{◌-◌}
 use native.Mathlib.Omega.{arith}
 use Rattle.roots.proofs.Rooting.{rooting_none, rooting_more, rooting_all}
 use Rattle.roots.proofs.rooted.Goals as goal

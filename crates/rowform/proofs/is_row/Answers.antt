@@ -1,6 +1,5 @@
 -- `rowform::is_row`: LF after the width, and cells before it.
 use mathlib.Core.Path.{◌≡◌, sym, ◌∙◌}
-use Prim.Native.Nat.{◌-◌}
 use native.Mathlib.Omega.{arith}
 use Rattle.rowform.proofs.Cells.{cells_none, cells_more, too_short, other_byte, no_cell, cells_row}
 use Rattle.rowform.proofs.is_row.Goals as goal

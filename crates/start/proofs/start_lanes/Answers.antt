@@ -1,6 +1,6 @@
 -- `start::start_lanes`: the lanes that the loop passed have started.
 use mathlib.Core.Path.{◌≡◌, refl}
-use Prim.Native.Nat.{ℕ, ◌-◌, ◌/◌}
+use Prim.Native.Nat.{ℕ, ◌/◌}
 use native.Mathlib.Omega.{arith}
 use lib.ListN.{length}
 use Rattle.walkgraph.specs.Painting.{Rectangle, rectangle}

@@ -1,6 +1,6 @@
 -- `strip::back`: the first k lanes have the levels of the way back.
 use mathlib.Core.Path.{refl, ap, ◌∙◌}
-use Prim.Native.Nat.{ℕ, ◌-◌}
+use Prim.Native.Nat.{ℕ}
 use native.Mathlib.Omega.{arith}
 use borrow.Author.Rules.{sfits_of}
 use Rattle.lane.specs.Levels.{level_at}

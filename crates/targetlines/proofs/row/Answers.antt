@@ -1,5 +1,5 @@
 -- `targetlines::row`: the lines of the cells that the loop passed are put.
-use Prim.Native.Nat.{◌+◌, ◌-◌}
+use Prim.Native.Nat.{◌+◌}
 use native.Mathlib.Omega.{arith}
 use Rattle.cells.specs.Boxes.{box_of}
 use Rattle.window.specs.Windows.{as_record}

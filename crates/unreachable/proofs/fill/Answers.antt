@@ -1,6 +1,5 @@
 -- `unreachable::fill`: the lanes that the loop passed are unreachable, and the others stay.
 use mathlib.Core.Path.{◌≡◌, refl}
-use Prim.Native.Nat.{◌-◌}
 use native.Mathlib.Omega.{arith}
 use lib.ListN.{length-set}
 use Rattle.lane.specs.Levels.{level_at}

@@ -1,6 +1,6 @@
 -- `versions::set`: the entries that the loop passed hold the number, and the others stay.
 use mathlib.Core.Path.{◌≡◌, refl}
-use Prim.Native.Nat.{◌+◌, ◌-◌}
+use Prim.Native.Nat.{◌+◌}
 use native.Mathlib.Omega.{arith}
 use lib.ListN.{length-set}
 use Rattle.window.proofs.Fills.{placed_none, placed_store}

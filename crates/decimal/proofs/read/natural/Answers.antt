@@ -69,7 +69,7 @@ loop-at-smaller c = omega (arith, on-inside (goal.at.loop-at-smaller c).In-loop-
 pub loop-at-preserved : goal.loop-at-preserved
 loop-at-preserved c =
     let l = c.loop-at in
-    (passed_more l.invariant.0 _ (omega (arith, c.if-number-eq0.false)) (goes_on (goal.at.loop-at-preserved c).In-loop-at) c.digit.ensures.0 c.digit.ensures.1, omega (arith, c.digit.ensures.1))
+    (passed_more l.invariant.0 _ (omega arith) (goes_on (goal.at.loop-at-preserved c).In-loop-at) c.digit.ensures.0 c.digit.ensures.1, omega (arith, c.digit.ensures.1))
 
 pub returns-then-most-number-2 : goal.returns-then-most-number-2
 unfolding natural_found

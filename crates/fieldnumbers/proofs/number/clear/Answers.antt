@@ -1,6 +1,5 @@
 -- `fieldnumbers::number::clear`: the entries that the loop passed have no number.
 use mathlib.Core.Path.{◌≡◌, refl, ◌∙◌}
-use Prim.Native.Nat.{◌-◌}
 use native.Mathlib.Omega.{arith}
 use borrow.Author.Count.{below_more}
 use lib.ListN.{set, length-set}

@@ -1,6 +1,5 @@
 -- `fieldnumbers::number::number`: the resources that the loop passed have their numbers.
 use mathlib.Core.Path.{sym, ◌∙◌}
-use Prim.Native.Nat.{◌-◌}
 use native.Mathlib.Omega.{arith}
 use Rattle.numbering.proofs.Giving.{none_given, all_given}
 use Rattle.fieldnumbers.proofs.number.number.Goals as goal

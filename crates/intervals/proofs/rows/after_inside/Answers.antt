@@ -1,6 +1,5 @@
 -- `intervals::rows::after_inside`: none of the columns that the loop passed is inside.
 use mathlib.Core.Path.{sym, ◌∙◌}
-use Prim.Native.Nat.{◌-◌}
 use native.Mathlib.Omega.{arith}
 use Rattle.intervals.specs.Intervals.{inside_gaps}
 use Rattle.intervals.proofs.Columns.{first_most, OneMore, one_more, none_ends}

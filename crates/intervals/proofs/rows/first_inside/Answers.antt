@@ -1,6 +1,5 @@
 -- `intervals::rows::first_inside`: the first inside column from the loop's column on is the first of all.
 use mathlib.Core.Path.{sym, ◌∙◌}
-use Prim.Native.Nat.{◌-◌}
 use native.Mathlib.Omega.{arith}
 use Rattle.intervals.specs.Intervals.{inside_gaps}
 use Rattle.intervals.proofs.Columns.{start, GoesOn, goes_on, ends_here}

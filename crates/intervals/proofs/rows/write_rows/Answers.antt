@@ -1,6 +1,6 @@
 -- `intervals::rows::write_rows`: the rows that the loop passed have their intervals.
 use mathlib.Core.Path.{◌≡◌, refl}
-use Prim.Native.Nat.{◌*◌, ◌-◌}
+use Prim.Native.Nat.{◌*◌}
 use native.Mathlib.Omega.{arith}
 use Rattle.window.specs.Fills.{entries}
 use Rattle.intervals.specs.Intervals.{rows_filled}

@@ -1,6 +1,5 @@
 -- `join::expand::expand`: the moves that the loop passed are done.
 use mathlib.Core.Path.{◌≡◌, refl, sym, ◌∙◌}
-use Prim.Native.Nat.{◌-◌}
 use native.Mathlib.Omega.{arith}
 use Rattle.disjoint.specs.Forest.{of}
 use Rattle.join.proofs.Rounds.{round_none, round_may, round_on, round_done, head_cell, head_queued, few_cells, Sizes, sizes, may_at, visited_at}

@@ -1,6 +1,5 @@
 -- `join::search::search`: the table, and the search after the cells that the loop passed.
 use mathlib.Core.Path.{refl, sym, ◌∙◌}
-use Prim.Native.Nat.{◌-◌}
 use native.Mathlib.Omega.{arith}
 use borrow.Author.Tests.{eqb-true, eqb-false}
 use Rattle.join.proofs.Directions.{directions}

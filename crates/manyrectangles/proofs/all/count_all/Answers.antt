@@ -1,6 +1,6 @@
 -- `manyrectangles::all::count_all`: the access cells of the rectangles that the loop passed.
 use mathlib.Core.Path.{◌≡◌, sym, ap}
-use Prim.Native.Nat.{◌+◌, ◌-◌, ◌/◌}
+use Prim.Native.Nat.{◌+◌, ◌/◌}
 use native.Mathlib.Omega.{arith}
 use lib.ListN.{length}
 use Rattle.manyrectangles.specs.AllCells.{all_cells}

@@ -1,6 +1,6 @@
 -- `picks::pick::edge`: the moves that the loop passed are picked.
 use mathlib.Core.Path.{◌≡◌, refl}
-use Prim.Native.Nat.{◌*◌, ◌-◌}
+use Prim.Native.Nat.{◌*◌}
 use native.Mathlib.Omega.{arith}
 use Rattle.picks.specs.Picks.{one, is_inside}
 use Rattle.picks.proofs.Picking.{one_le, one_and, picked_none, picked_on}

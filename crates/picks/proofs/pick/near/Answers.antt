@@ -1,6 +1,5 @@
 -- `picks::pick::near`: the moves that the loop passed are picked.
 use mathlib.Core.Path.{◌≡◌, refl}
-use Prim.Native.Nat.{◌-◌}
 use native.Mathlib.Omega.{arith}
 use Rattle.picks.specs.Picks.{is_near}
 use Rattle.picks.proofs.Picking.{picked_none, picked_keep}

@@ -1,6 +1,6 @@
 -- `ringrows::rows::count_rows`: the walkable cells of the rows that the loop passed.
 use mathlib.Core.Path.{◌≡◌, sym, ap, ◌∙◌}
-use Prim.Native.Nat.{◌+◌, ◌-◌}
+use Prim.Native.Nat.{◌+◌}
 use native.Mathlib.Omega.{arith}
 use lib.ListN.{length}
 use Rattle.cells.specs.Boxes.{box_of}

@@ -1,5 +1,4 @@
 -- `ringrows::rows::list_rows`: the walkable cells of the rows that the loop passed are listed.
-use Prim.Native.Nat.{◌-◌}
 use native.Mathlib.Omega.{arith}
 use Rattle.cells.specs.Boxes.{box_of}
 use Rattle.ringruns.proofs.RowRuns.{runs_in}

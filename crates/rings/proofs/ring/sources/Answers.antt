@@ -1,6 +1,6 @@
 -- `rings::ring::sources`: the loop holds the box around the ring boxes that it has passed.
 use mathlib.Core.Path.{◌≡◌, refl, ap, ◌∙◌}
-use Prim.Native.Nat.{◌-◌, ◌/◌}
+use Prim.Native.Nat.{◌/◌}
 use native.Mathlib.Omega.{arith}
 use lib.ListN.{length}
 use Rattle.rings.proofs.Search.{all_good}

@@ -1,6 +1,6 @@
 -- `seeds::ground::ground`: the states that the loop passed are those of their cells.
 use mathlib.Core.Path.{refl, ◌∙◌}
-use Prim.Native.Nat.{◌*◌, ◌-◌}
+use Prim.Native.Nat.{◌*◌}
 use native.Mathlib.Omega.{arith}
 use lib.ListN.{length-set}
 use Rattle.disjoint.specs.Forest.{of}

@@ -1,6 +1,5 @@
 -- `seeds::seed::seed`: the states, the classes, and the lists that the loop passed.
 use mathlib.Core.Path.{◌≡◌, sym, ◌∙◌}
-use Prim.Native.Nat.{◌-◌}
 use native.Mathlib.Omega.{arith}
 use lib.ListN.{length}
 use Rattle.walkgraph.specs.FieldsPromise.{start_of}

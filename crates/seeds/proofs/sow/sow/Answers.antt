@@ -1,5 +1,4 @@
 -- `seeds::sow::sow`: the places that the loop passed are done.
-use Prim.Native.Nat.{◌-◌}
 use mathlib.Core.Path.{◌≡◌}
 use native.Mathlib.Omega.{arith}
 use Rattle.seeds.proofs.Sowing.{in_list, few_resources, wide_enough, index_small, place_may, place_sown, long_states, long_queue, long_parents, long_ranks}

@@ -1,6 +1,6 @@
 -- `ringbox::start_ring`: the rows that the loop passed have started.
 use mathlib.Core.Path.{◌≡◌, refl}
-use Prim.Native.Nat.{◌+◌, ◌-◌}
+use Prim.Native.Nat.{◌+◌}
 use native.Mathlib.Omega.{arith}
 use Rattle.lane.specs.Levels.{level_at}
 use Rattle.cells.specs.Boxes.{box_of}

@@ -1,5 +1,5 @@
 -- `unions::union::union`: both members have one root already, or the root of lower rank goes under the other.
-use mathlib.Core.Path.{refl, ◌∙◌}
+use mathlib.Core.Path.{refl}
 use native.Mathlib.Omega.{arith}
 use Rattle.disjoint.proofs.Finding.{root_rank}
 use Rattle.unions.proofs.Joining.{same_united, lower_roots, lower_least, lower_united}

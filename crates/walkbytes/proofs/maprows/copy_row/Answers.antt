@@ -1,6 +1,5 @@
 -- `maprows::copy_row`: the bytes that the loop passed are the map's, and the others stay.
 use mathlib.Core.Path.{◌≡◌, refl}
-use Prim.Native.Nat.{◌-◌}
 use native.Mathlib.Omega.{arith}
 use lib.ListN.{length-set}
 use Rattle.window.proofs.Fills.{placed_none, placed_store}

@@ -1,6 +1,5 @@
 -- `maprows::copy_rows`: the rows that the loop passed are the map's; where the next one starts, in the map and in the walk bytes.
 use mathlib.Core.Path.{◌≡◌, refl}
-use Prim.Native.Nat.{◌-◌}
 use native.Mathlib.Omega.{arith}
 use Rattle.window.specs.Fills.{entries, window_rows}
 use Rattle.walkbytes.specs.Copies.{map_rows}

@@ -1,6 +1,6 @@
 -- `painting::paint`: the blockers that the loop passed are painted.
 use mathlib.Core.Path.{◌≡◌, refl}
-use Prim.Native.Nat.{◌-◌, ◌/◌}
+use Prim.Native.Nat.{◌/◌}
 use native.Mathlib.Omega.{arith}
 use lib.ListN.{length}
 use Rattle.walkbytes.proofs.Boxed.{blockers_none, blockers_more}
