@@ -1,11 +1,11 @@
 // The program: reads a room text from standard input, or one from each file that its arguments name, and writes its sheet, or the line of its refusal, to standard output.
 #![tactic(auto)]
 
-ghost use Rattle.std.specs.Prelude.{IfOk, ◌<◌, ◌≤◌, length, take};
-ghost use Rattle.std.specs.Io.KnownBytes.{Consumes, IsAtEnd};
+ghost use Rattle.std.specs.Prelude.{◌<◌, ◌≤◌, length, take};
 ghost use Rattle.sheets.specs.SheetText.{SheetOf};
 
 use roomlimits;
+use std::alloc::AllocError;
 use std::env::{Env, FillError};
 use std::io::Read;
 use std::rt::Files;
@@ -19,31 +19,28 @@ fn answer(text: &[u8], out: &mut [u8]) -> usize
     sheets::sheet(text, out)
 }
 
-// Reads a file up to its end, or up to one byte more than the 8,192 that a room text has at most; answers how many bytes came.
-fn taken<R: Read>(file: &mut R, text: &mut [u8]) -> io::Result<usize>
+// Reads a file up to its end, to the first read that fails, or up to one byte more than the 8,192 that a room text has at most; answers how many bytes came.
+fn taken(file: &mut impl Read, text: &mut [u8]) -> usize
     requires { 8192 < length text.old }
-    ensures bound { IfOk result (λ count. count ≤ length text.new) }
-    ensures bytes { IfOk result (λ count. Consumes (R.remaining file.old) (R.remaining file.new) (take count text.new)) }
-    ensures end { IfOk result (λ count. count < length text.new → IsAtEnd (R.remaining file.new)) }
+    ensures { result ≤ length text.new }
 {
     let mut done = 0;
     while done < text.len() {
-        let count = file.read(&mut text[done..])?;
-        if count == 0 {
-            break;
+        match file.read(&mut text[done..]) {
+            Ok(0) | Err(_) => break,
+            Ok(count) => done += count,
         }
-        done += count;
     }
-    Ok(done)
+    done
 }
 
-// Writes the sheet of the text in a file.
-fn shown(rt: &impl Print, file: &mut impl Read) -> io::Result<()> {
+// Writes the sheet of the text in a file. Nobody is told of a write that fails.
+fn shown(rt: &impl Print, file: &mut impl Read) {
     let mut text = roomlimits::text();
     let mut out = roomlimits::sheet();
-    let count = taken(file, &mut text)?;
+    let count = taken(file, &mut text);
     let end = answer(&text[..count], &mut out);
-    rt.write_all(&out[..end])
+    let _ = rt.write_all(&out[..end]);
 }
 
 // The system's words for an error, without the number that std puts after them.
@@ -55,17 +52,22 @@ fn words(said: &str) -> &str {
 }
 
 // Says on standard error why a file cannot be opened.
-fn failed(rt: &(impl Eprint + AllocGlobal), name: &str, error: io::Error) -> io::Result<()> {
+fn failed(
+    rt: &(impl Eprint + AllocGlobal),
+    name: &str,
+    error: io::Error,
+) -> Result<(), AllocError> {
     let said = format!(in rt.alloc(); "{error}")?;
     let reason = words(said.as_str());
-    eprintln!(rt; "{name}: {reason}")
+    let _ = eprintln!(rt; "{name}: {reason}");
+    Ok(())
 }
 
 // Writes the sheet of the text in the file that an argument names, or says why the file cannot be opened; answers whether there is such an argument.
 fn named(
     rt: &(impl Env + Files + Print + Eprint + AllocGlobal),
     argument: usize,
-) -> io::Result<bool> {
+) -> Result<bool, AllocError> {
     let mut name = [0u8; 4096];
     let length = match rt.arg(argument, &mut name) {
         Ok(length) => length,
@@ -75,21 +77,22 @@ fn named(
     };
     match str::from_utf8(&name[..length]) {
         Ok(name) => match fs::open(rt, name) {
-            Ok(mut file) => shown(rt, &mut file)?,
+            Ok(mut file) => shown(rt, &mut file),
             Err(error) => failed(rt, name, error)?,
         },
         // std opens files by UTF-8 names alone.
         Err(_) => {
             let name = String::from_utf8_lossy(rt.alloc(), &name[..length])?;
-            eprintln!(rt; "{name}: The name is not UTF-8")?;
+            let _ = eprintln!(rt; "{name}: The name is not UTF-8");
         }
     }
     Ok(true)
 }
 
-fn main(rt: HostRuntime) -> io::Result<()> {
+fn main(rt: HostRuntime) -> Result<(), AllocError> {
     if !named(&rt, 1)? {
-        return shown(&rt, &mut rt.reader());
+        shown(&rt, &mut rt.reader());
+        return Ok(());
     }
     for argument in 2..usize::MAX {
         if !named(&rt, argument)? {
