@@ -10,7 +10,7 @@ ghost use Rattle.groups.specs.Groups.{zero_join, Joins, GroupsFit, Grouped};
 
 use accesslists::call as lists;
 use countanswer::Answer;
-use fields::call as join;
+use fields::call;
 use roomlimits;
 
 // How many fields the resources form whose access cells are listed, and the field of each.
@@ -29,7 +29,7 @@ fn joined(
     let mut queue: [u32; 3600] = [0; 3600];
     let mut parents: [u16; 8] = [0; 8];
     let mut ranks: [u8; 8] = [0; 8];
-    let found = join::fields(
+    let found = call::fields(
         width,
         height,
         cells,
