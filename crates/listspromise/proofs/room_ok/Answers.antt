@@ -1,4 +1,5 @@
 -- `listspromise::room_ok`: each length is tested in its turn.
+use native.Mathlib.Omega.{arith}
 use borrow.Author.Tests.{lt-ltb, le-ltb}
 use Rattle.listspromise.specs.AccessListsPromise.{short_lists}
 use Rattle.listspromise.proofs.room_ok.Goals as goal
@@ -19,4 +20,4 @@ pub returns : goal.returns
 unfolding short_lists
 returns c =
     let a = c.args in
-    rw (le-ltb a.indices a.count c.if-indices-count.false, le-ltb a.ends a.rectangles c.if-ends-rectangles.false)
+    rw (le-ltb a.indices a.count (omega arith), le-ltb a.ends a.rectangles (omega arith))
