@@ -1,6 +1,8 @@
 // Lines of a text, each ended by LF.
 #![tactic(auto)]
 
+pub mod broken;
+
 ghost use Rattle.std.specs.Prelude.{◌≡◌, ◌==◌, length, ltb, position};
 ghost use Rattle.textlines.specs.Lines.{FindsLine};
 ghost use Rattle.textlines.specs.Answers.{line_found};
