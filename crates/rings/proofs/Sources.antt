@@ -3,6 +3,7 @@ use mathlib.Core.Path.{◌≡◌, refl, sym, ap, ◌∙◌}
 use mathlib.Core.Bool.{true, false}
 use mathlib.Core.List.{List}
 use Prim.Native.Nat.{ℕ, zero, suc, ◌+◌, ◌-◌, ◌/◌, ◌≤◌}
+use borrow.Author.Rules.{rules}
 use native.Mathlib.Omega.{arith}
 use native.Mathlib.Numerals.{add-one}
 use lib.IntN.{ℤ}
@@ -14,9 +15,9 @@ use Rattle.walkgraph.specs.Window.{hull, sources}
 use Rattle.walkgraph.specs.Refusals.{bad_resource}
 use Rattle.walklaws.proofs.Maps.{OnMap}
 use Rattle.rings.specs.declared.ring.Ring.{Ring}
-use Rattle.std.specs.Prelude.{Option, Some, None, is_some}
+use Rattle.std.specs.Prelude.{Option, Some, None, is_some, IsSome}
 use Rattle.cells.specs.Boxes.{InMap}
-use Rattle.rings.specs.Rings.{RingOf, AllRings, around}
+use Rattle.rings.specs.Rings.{Accepted, RingOf, AllRings, around}
 use Rattle.cells.proofs.Bools.{clash}
 use Rattle.rings.proofs.Sides.{on_map}
 use Rattle.rings.proofs.Search.{all_good}
@@ -35,6 +36,16 @@ pub accepted_by : (w h : ℕ) (r : Rectangle) (ring : Option Ring) → RingOf w 
 unfolding RingOf
 accepted_by w h r (Some found) o e = o.good
 accepted_by w h r None o e = absurd (clash (sym e))
+
+-- a resource that is not refused has a ring, and it is the one that is found
+pub has_ring : (w h : ℕ) (r : Rectangle) (ring : Option Ring) → RingOf w h r ring → bad_resource w h r ≡ false → IsSome ring
+unfolding RingOf
+has_ring w h r (Some found) o e = search rules
+has_ring w h r None o e = absurd (clash (sym o ∙ e))
+
+pub found_ring : (w h : ℕ) (r : Rectangle) {ring : Option Ring} (found : Ring) → RingOf w h r ring → ring ≡ Some found → Accepted w h r found.ring found.body
+unfolding RingOf
+found_ring w h r found o e = rw e at o
 
 -- ---- around the ring boxes of the first k resources; a ring box and the box around none make the ring box
 unfoldable pub so_far : ℕ → ℕ → List ℤ → ℕ → Box
