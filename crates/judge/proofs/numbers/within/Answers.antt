@@ -1,22 +1,22 @@
 -- `judge::numbers::within`: its three tests are those of a span.
-use Rattle.cells.proofs.Casts.{cast, may_cast}
-use Rattle.judge.proofs.Spans.{EndDecides, span_below, span_empty, span_end}
-use Rattle.judge.proofs.numbers.within.Goals.{Else-high-low}
+use mathlib.Core.Path.{sym, ◌∙◌}
+use Rattle.cells.proofs.Bools.{clash}
+use Rattle.judge.proofs.Spans.{span_below, span_empty, span_end}
+use Rattle.judge.proofs.numbers.within.Goals.{then-low-ge0, else-low-ge0}
 use Rattle.judge.proofs.numbers.within.Goals as goal
 
-pub returns-then-low-lt0 : goal.returns-then-low-lt0
-returns-then-low-lt0 c = let b = c in span_below b.args.size b.args.low b.args.high b.ranges.low b.ranges.high c.if-low-lt0.true
+pub returns-then-low-high : goal.returns-then-low-high
+returns-then-low-high c =
+    let a = c.args in
+    elim c.if-low-ge0.branch [
+      | then-low-ge0 w ↦ span_end a.size a.low a.high c.ranges.low c.ranges.high w.if-low-ge0.true (sym w.value-is ∙ c.if-low-high.true)
+      | else-low-ge0 w ↦ absurd (clash (sym c.if-low-high.true ∙ w.value-is ∙ w.if-low-ge0.false))
+    ]
 
-pub returns-then-high-low : goal.returns-then-high-low
-returns-then-high-low c = let b = c in span_empty b.args.size b.args.low b.args.high b.ranges.low b.ranges.high c.if-high-low.true
-
-end : (c : Else-high-low) → EndDecides c.args.size c.args.low c.args.high
-end c =
-    let b = c in
-    span_end b.args.size b.args.low b.args.high b.ranges.low b.ranges.high c.if-low-lt0.false c.if-high-low.false
-
-pub overflow_cast-result : goal.overflow_cast-result
-overflow_cast-result c = let b = c in may_cast b.args.high b.ranges.high _ (end (goal.at.overflow_cast-result c).Else-high-low).high_is
-
-pub returns : goal.returns
-returns c = let b = c in rw (cast b.args.high b.ranges.high _ (end (goal.at.returns c).Else-high-low).high_is) (end (goal.at.returns c).Else-high-low).test
+pub returns-else-low-high : goal.returns-else-low-high
+returns-else-low-high c =
+    let a = c.args in
+    rw c.if-low-high.false (elim c.if-low-ge0.branch [
+      | then-low-ge0 w ↦ span_empty a.size a.low a.high c.ranges.low c.ranges.high w.if-low-ge0.true (sym w.value-is ∙ c.if-low-high.false)
+      | else-low-ge0 w ↦ span_below a.size a.low a.high c.ranges.low c.ranges.high w.if-low-ge0.false
+    ])
