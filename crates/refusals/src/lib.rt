@@ -14,6 +14,7 @@ use refusal::Refusal;
 use rings::ring;
 
 // Refusals 1 to 3: the map, the lane count, the number of resources.
+#[tactic(auto, unfolding(judge::specs::Verdicts::verdict_of, crate::specs::Verdicts::map_tests, walkgraph::specs::Refusals::judge))]
 pub fn judge_map(
     width: u32,
     height: u32,
@@ -44,6 +45,7 @@ fn on_map(targets: Corners, width: u32, height: u32) -> bool
 }
 
 // Refusals 4 to 6, where 1 to 3 are not given: each resource, the number of blockers, the target box.
+#[tactic(auto, unfolding(judge::specs::Verdicts::verdict_of, crate::specs::Verdicts::rest_tests, walkgraph::specs::Refusals::judge))]
 pub fn judge_rest(
     width: u32,
     height: u32,
