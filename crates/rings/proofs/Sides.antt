@@ -1,12 +1,12 @@
 -- One side of a rectangle, from pixel low to pixel high along an axis of size cells, as the code tests it; and a rectangle of two good sides is on the map.
-use mathlib.Core.Path.{◌≡◌, refl}
+use mathlib.Core.Path.{◌≡◌, refl, sym}
 use mathlib.Core.Bool.{true, false, not, ◌&&◌}
 use Prim.Native.Nat.{ℕ, ◌*◌, ◌≤◌, ◌<◌}
 use native.Mathlib.Omega.{arith}
 use lib.IntN.{ℤ, pos, negsuc}
 use lib.Signed.{lt_z, le_z}
 use lib.Dec.{T, leb, ltb, leb→le, ltb→lt}
-use borrow.Author.Tests.{not-false, ltb-true, leb-true, leb-false, le-leb, lt-ltb, le-ltb}
+use borrow.Author.Tests.{not-false, ltb-true, ltb-false, leb-false, le-leb, lt-ltb, le-ltb}
 use Rattle.walkgraph.specs.Painting.{Rectangle}
 use Rattle.walkgraph.specs.Ring.{pixel}
 use Rattle.walkgraph.specs.Refusals.{bad_side, bad_resource}
@@ -14,14 +14,14 @@ use Rattle.walkgraph.proofs.Tests.{and_left, and_right}
 use Rattle.walklaws.proofs.Maps.{OnMap}
 use Rattle.cells.proofs.Bools.{clash, not_not, neither}
 
-pub span_below : (size : ℕ) (low high : ℤ) → lt_z low (pos 0) ≡ true → not (bad_side size low high) ≡ false
+pub span_below : (size : ℕ) (low high : ℤ) → le_z (pos 0) low ≡ false → not (bad_side size low high) ≡ false
 unfolding bad_side
-span_below size (pos a) high e = absurd (omega (arith, ltb-true a 0 e))
+span_below size (pos a) high e = absurd (omega (arith, leb-false 0 a e))
 span_below size (negsuc a) high e = refl
 
-pub span_empty : (size : ℕ) (low high : ℤ) → le_z high low ≡ true → not (bad_side size low high) ≡ false
+pub span_empty : (size : ℕ) (low high : ℤ) → lt_z low high ≡ false → not (bad_side size low high) ≡ false
 unfolding bad_side
-span_empty size (pos a) (pos b) e = rw (le-leb 0 a (omega arith), le-ltb a b (leb-true b a e))
+span_empty size (pos a) (pos b) e = rw (le-leb 0 a (omega arith), le-ltb a b (ltb-false a b e))
 span_empty size (pos a) (negsuc b) e = rw (le-leb 0 a (omega arith))
 span_empty size (negsuc a) high e = refl
 
@@ -30,11 +30,11 @@ pub record EndDecides (size : ℕ) (low high : ℤ) : Type 0 where
   pub high_is : high ≡ pos (pixel high)
   pub test : leb (pixel high) (8 * size) ≡ not (bad_side size low high)
 
-pub span_end : (size : ℕ) (low high : ℤ) → lt_z low (pos 0) ≡ false → le_z high low ≡ false → EndDecides size low high
+pub span_end : (size : ℕ) (low high : ℤ) → le_z (pos 0) low ≡ true → lt_z low high ≡ true → EndDecides size low high
 unfolding bad_side pixel
-span_end size (pos a) (pos b) e f = record { high_is = refl; test = rw (le-leb 0 a (omega arith), lt-ltb a b (leb-false b a f)) (not_not (leb b (8 * size))) }
-span_end size (pos a) (negsuc b) e f = absurd (clash f)
-span_end size (negsuc a) high e f = absurd (clash e)
+span_end size (pos a) (pos b) e f = record { high_is = refl; test = rw (le-leb 0 a (omega arith), lt-ltb a b (ltb-true a b f)) (not_not (leb b (8 * size))) }
+span_end size (pos a) (negsuc b) e f = absurd (clash (sym f))
+span_end size (negsuc a) high e f = absurd (clash (sym e))
 
 -- ---- a side that is not refused, and a resource of two such sides
 pub record Side (size : ℕ) (low high : ℤ) : Type 0 where

@@ -4,10 +4,10 @@ use Rattle.rings.specs.Rings.{around}
 use Rattle.rings.proofs.Sources.{same_box_lem}
 use Rattle.rings.proofs.ring.around.Goals as goal
 
-pub returns-in-Present : goal.returns-in-Present
-unfolding around hull
-returns-in-Present c = rw c.in-Present.is (same_box_lem c.least.ensures c.least-in-Present.ensures c.most.ensures c.most-in-Present.ensures)
-
-pub returns-in-Refused : goal.returns-in-Refused
+pub returns-in_default : goal.returns-in_default
 unfolding around
-returns-in-Refused c = rw c.in-Refused.is
+returns-in_default c = rw c.in_default.is
+
+pub returns : goal.returns
+unfolding around hull
+returns c = rw c.in-Some.is (same_box_lem (cc) (cc) (cc) (cc))

@@ -2,6 +2,7 @@
 use mathlib.Core.Path.{◌≡◌, sym, ◌∙◌, ap}
 use mathlib.Core.Bool.{Bool, true, false, not}
 use Prim.Native.Nat.{ℕ, ◌+◌, ◌*◌, ◌-◌, ◌/◌, ◌≤◌, ◌<◌, min}
+use borrow.Author.Rules.{sfits_of}
 use borrow.Author.Tests.{not-true, not-false}
 use native.Mathlib.Omega.{arith}
 use lib.IntN.{ℤ}
@@ -47,95 +48,71 @@ some_pixel e h = omega arith
 last_in : {cell pixel low high size : ℕ} → cell ≡ (pixel - 1) / 8 → pixel ≡ high → low < high → high ≤ 8 * size → size ≤ 1024 → (cell ≤ 1024) × (1 ≤ size)
 last_in e f g h k = (omega arith, omega arith)
 
-pub spans-requires : goal.spans-requires
-spans-requires c = c.requires.0
-
 pub returns-then-not-spans : goal.returns-then-not-spans
 unfolding RingOf bad_resource
 returns-then-not-spans c =
-    rw (refused c.args.width c.args.left c.args.right c.ranges.left c.ranges.right c.spans.ensures (ap not c.if-not-spans.true))
+    rw (refused c.args.width c.args.rectangle.left c.args.rectangle.right (sfits_of c.struct_told-1.given.0.1) (sfits_of c.struct_told-1.given.1.1.0.1) c.spans.ensures (ap not c.if-not-spans.true))
 
-pub spans-requires-2 : goal.spans-requires-2
-spans-requires-2 c = c.requires.1
-
-good-across : (c : Else-not-spans) → bad_side c.args.width c.args.left c.args.right ≡ false
+good-across : (c : Else-not-spans) → bad_side c.args.width c.args.rectangle.left c.args.rectangle.right ≡ false
 good-across c =
-    accepted c.args.width c.args.left c.args.right c.ranges.left c.ranges.right c.spans.ensures (ap not c.if-not-spans.false)
+    accepted c.args.width c.args.rectangle.left c.args.rectangle.right (sfits_of c.struct_told-1.given.0.1) (sfits_of c.struct_told-1.given.1.1.0.1) c.spans.ensures (ap not c.if-not-spans.false)
 
 pub returns-then-not-spans-2 : goal.returns-then-not-spans-2
 unfolding RingOf bad_resource
 returns-then-not-spans-2 c =
-    rw (good-across (goal.at.returns-then-not-spans-2 c).Else-not-spans, refused c.args.height c.args.top c.args.bottom c.ranges.top c.ranges.bottom c.spans-2.ensures (ap not c.if-not-spans-2.true))
+    rw (good-across (goal.at.returns-then-not-spans-2 c).Else-not-spans, refused c.args.height c.args.rectangle.top c.args.rectangle.bottom (sfits_of c.struct_told-1.given.1.0.1) (sfits_of c.struct_told-1.given.1.1.1.0.1) c.spans-2.ensures (ap not c.if-not-spans-2.true))
 
-good-along : (c : Else-not-spans-2) → bad_side c.args.height c.args.top c.args.bottom ≡ false
+good-along : (c : Else-not-spans-2) → bad_side c.args.height c.args.rectangle.top c.args.rectangle.bottom ≡ false
 good-along c =
-    accepted c.args.height c.args.top c.args.bottom c.ranges.top c.ranges.bottom c.spans-2.ensures (ap not c.if-not-spans-2.false)
+    accepted c.args.height c.args.rectangle.top c.args.rectangle.bottom (sfits_of c.struct_told-1.given.1.0.1) (sfits_of c.struct_told-1.given.1.1.1.0.1) c.spans-2.ensures (ap not c.if-not-spans-2.false)
 
-across : (c : Else-not-spans) → (bad_side c.args.width c.args.left c.args.right ≡ false) → Side c.args.width c.args.left c.args.right
-across c of_good-across = side c.args.width c.args.left c.args.right of_good-across
+across : (c : Else-not-spans) → (bad_side c.args.width c.args.rectangle.left c.args.rectangle.right ≡ false) → Side c.args.width c.args.rectangle.left c.args.rectangle.right
+across c of_good-across = side c.args.width c.args.rectangle.left c.args.rectangle.right of_good-across
 
-along : (c : Else-not-spans-2) → (bad_side c.args.height c.args.top c.args.bottom ≡ false) → Side c.args.height c.args.top c.args.bottom
-along c of_good-along = side c.args.height c.args.top c.args.bottom of_good-along
+along : (c : Else-not-spans-2) → (bad_side c.args.height c.args.rectangle.top c.args.rectangle.bottom ≡ false) → Side c.args.height c.args.rectangle.top c.args.rectangle.bottom
+along c of_good-along = side c.args.height c.args.rectangle.top c.args.rectangle.bottom of_good-along
 
-pub overflow_cast-left : goal.overflow_cast-left
-overflow_cast-left c = may_cast c.args.left c.ranges.left _ (across (goal.at.overflow_cast-left c).Else-not-spans (good-across (goal.at.overflow_cast-left c).Else-not-spans)).low_is
+pub overflow_cast-rectangle : goal.overflow_cast-rectangle
+overflow_cast-rectangle c = may_cast c.args.rectangle.left (sfits_of c.struct_told-1.given.0.1) _ (across (goal.at.overflow_cast-rectangle c).Else-not-spans (good-across (goal.at.overflow_cast-rectangle c).Else-not-spans)).low_is
 
-pub cell_of-requires : goal.cell_of-requires
-cell_of-requires c = tt
+pub overflow_cast-rectangle-2 : goal.overflow_cast-rectangle-2
+overflow_cast-rectangle-2 c = may_cast c.args.rectangle.top (sfits_of c.struct_told-1.given.1.0.1) _ (along (goal.at.overflow_cast-rectangle-2 c).Else-not-spans-2 (good-along (goal.at.overflow_cast-rectangle-2 c).Else-not-spans-2)).low_is
 
-pub overflow_cast-top : goal.overflow_cast-top
-overflow_cast-top c = may_cast c.args.top c.ranges.top _ (along (goal.at.overflow_cast-top c).Else-not-spans-2 (good-along (goal.at.overflow_cast-top c).Else-not-spans-2)).low_is
+pub overflow_cast-rectangle-3 : goal.overflow_cast-rectangle-3
+overflow_cast-rectangle-3 c = may_cast c.args.rectangle.right (sfits_of c.struct_told-1.given.1.1.0.1) _ (across (goal.at.overflow_cast-rectangle-3 c).Else-not-spans (good-across (goal.at.overflow_cast-rectangle-3 c).Else-not-spans)).high_is
 
-pub cell_of-requires-2 : goal.cell_of-requires-2
-cell_of-requires-2 c = tt
+pub overflow_sub-rectangle : goal.overflow_sub-rectangle
+overflow_sub-rectangle c =
+    let s = across (goal.at.overflow_sub-rectangle c).Else-not-spans (good-across (goal.at.overflow_sub-rectangle c).Else-not-spans) in
+    some_pixel (cast c.args.rectangle.right (sfits_of c.struct_told-1.given.1.1.0.1) _ s.high_is) s.across
 
-pub overflow_cast-right : goal.overflow_cast-right
-overflow_cast-right c = may_cast c.args.right c.ranges.right _ (across (goal.at.overflow_cast-right c).Else-not-spans (good-across (goal.at.overflow_cast-right c).Else-not-spans)).high_is
+pub overflow_cast-rectangle-4 : goal.overflow_cast-rectangle-4
+overflow_cast-rectangle-4 c = may_cast c.args.rectangle.bottom (sfits_of c.struct_told-1.given.1.1.1.0.1) _ (along (goal.at.overflow_cast-rectangle-4 c).Else-not-spans-2 (good-along (goal.at.overflow_cast-rectangle-4 c).Else-not-spans-2)).high_is
 
-pub overflow_sub-right : goal.overflow_sub-right
-overflow_sub-right c =
-    let s = across (goal.at.overflow_sub-right c).Else-not-spans (good-across (goal.at.overflow_sub-right c).Else-not-spans) in
-    some_pixel (cast c.args.right c.ranges.right _ s.high_is) s.across
-
-pub cell_of-requires-3 : goal.cell_of-requires-3
-cell_of-requires-3 c = tt
-
-pub overflow_cast-bottom : goal.overflow_cast-bottom
-overflow_cast-bottom c = may_cast c.args.bottom c.ranges.bottom _ (along (goal.at.overflow_cast-bottom c).Else-not-spans-2 (good-along (goal.at.overflow_cast-bottom c).Else-not-spans-2)).high_is
-
-pub overflow_sub-bottom : goal.overflow_sub-bottom
-overflow_sub-bottom c =
-    let s = along (goal.at.overflow_sub-bottom c).Else-not-spans-2 (good-along (goal.at.overflow_sub-bottom c).Else-not-spans-2) in
-    some_pixel (cast c.args.bottom c.ranges.bottom _ s.high_is) s.across
-
-pub cell_of-requires-4 : goal.cell_of-requires-4
-cell_of-requires-4 c = tt
-
-pub before-requires : goal.before-requires
-before-requires c = tt
-
-pub before-requires-2 : goal.before-requires-2
-before-requires-2 c = tt
+pub overflow_sub-rectangle-2 : goal.overflow_sub-rectangle-2
+overflow_sub-rectangle-2 c =
+    let s = along (goal.at.overflow_sub-rectangle-2 c).Else-not-spans-2 (good-along (goal.at.overflow_sub-rectangle-2 c).Else-not-spans-2) in
+    some_pixel (cast c.args.rectangle.bottom (sfits_of c.struct_told-1.given.1.1.1.0.1) _ s.high_is) s.across
 
 pub after-requires : goal.after-requires
 after-requires c =
     let s = across (goal.at.after-requires c).Else-not-spans (good-across (goal.at.after-requires c).Else-not-spans) in
-    last_in c.cell_of-3.ensures (cast c.args.right c.ranges.right _ s.high_is) s.across s.wide c.requires.0
+    last_in c.cell_of-3.ensures (cast c.args.rectangle.right (sfits_of c.struct_told-1.given.1.1.0.1) _ s.high_is) s.across s.wide c.requires.0
 
 pub after-requires-2 : goal.after-requires-2
 after-requires-2 c =
     let s = along (goal.at.after-requires-2 c).Else-not-spans-2 (good-along (goal.at.after-requires-2 c).Else-not-spans-2) in
-    last_in c.cell_of-4.ensures (cast c.args.bottom c.ranges.bottom _ s.high_is) s.across s.wide c.requires.1
+    last_in c.cell_of-4.ensures (cast c.args.rectangle.bottom (sfits_of c.struct_told-1.given.1.1.1.0.1) _ s.high_is) s.across s.wide c.requires.1
 
 pub returns : goal.returns
 unfolding RingOf bad_resource ring_box body
 returns c =
-    let left = cell_is c.cell_of.ensures (cast c.args.left c.ranges.left _ (across (goal.at.returns c).Else-not-spans (good-across (goal.at.returns c).Else-not-spans)).low_is) in
-    let top = cell_is c.cell_of-2.ensures (cast c.args.top c.ranges.top _ (along (goal.at.returns c).Else-not-spans-2 (good-along (goal.at.returns c).Else-not-spans-2)).low_is) in
-    let right = last_cell_is c.cell_of-3.ensures (cast c.args.right c.ranges.right _ (across (goal.at.returns c).Else-not-spans (good-across (goal.at.returns c).Else-not-spans)).high_is) in
-    let bottom = last_cell_is c.cell_of-4.ensures (cast c.args.bottom c.ranges.bottom _ (along (goal.at.returns c).Else-not-spans-2 (good-along (goal.at.returns c).Else-not-spans-2)).high_is) in
+    let left = cell_is c.cell_of.ensures (cast c.args.rectangle.left (sfits_of c.struct_told-1.given.0.1) _ (across (goal.at.returns c).Else-not-spans (good-across (goal.at.returns c).Else-not-spans)).low_is) in
+    let top = cell_is c.cell_of-2.ensures (cast c.args.rectangle.top (sfits_of c.struct_told-1.given.1.0.1) _ (along (goal.at.returns c).Else-not-spans-2 (good-along (goal.at.returns c).Else-not-spans-2)).low_is) in
+    let right = last_cell_is c.cell_of-3.ensures (cast c.args.rectangle.right (sfits_of c.struct_told-1.given.1.1.0.1) _ (across (goal.at.returns c).Else-not-spans (good-across (goal.at.returns c).Else-not-spans)).high_is) in
+    let bottom = last_cell_is c.cell_of-4.ensures (cast c.args.rectangle.bottom (sfits_of c.struct_told-1.given.1.1.1.0.1) _ (along (goal.at.returns c).Else-not-spans-2 (good-along (goal.at.returns c).Else-not-spans-2)).high_is) in
     record {
       good = rw (good-across (goal.at.returns c).Else-not-spans, good-along (goal.at.returns c).Else-not-spans-2);
-      ring = same_box_lem (before_is c.before-2.ensures left) (before_is c.before-3.ensures top) (after_is c.args.width c.after.ensures right) (after_is c.args.height c.after-2.ensures bottom);
+      ring = same_box_lem (before_is c.saturating_sub.ensures left) (before_is c.saturating_sub-2.ensures top) (after_is c.args.width c.after.ensures right) (after_is c.args.height c.after-2.ensures bottom);
       body = same_box_lem left top right bottom;
     }
