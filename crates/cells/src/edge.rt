@@ -31,7 +31,7 @@ pub fn clamp(pixel: i32, size: usize) -> usize
     if pixel < 0 {
         return 0;
     }
-    least(pixel as usize, 8 * size)
+    (pixel as usize).min(8 * size)
 }
 
 // The cell that a pixel lies in.
