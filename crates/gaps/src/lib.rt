@@ -7,7 +7,6 @@ ghost use Rattle.cells.specs.Boxes.{reach, box_of};
 ghost use Rattle.gaps.specs.Inside.{Beside, inside_in_row};
 
 use cells::boxes::CellBox;
-use cells::edge;
 use windowedges::REACH;
 
 // The distance of a value to an interval, 0 in it.
@@ -15,10 +14,7 @@ pub fn gap(value: usize, low: usize, high: usize) -> usize
     requires { low ≤ high }
     ensures { result ≡ gap value low high }
 {
-    if value < low {
-        return low - value;
-    }
-    edge::past(high, value)
+    low.saturating_sub(value) + value.saturating_sub(high)
 }
 
 // The octile cost of an offset.
@@ -26,7 +22,7 @@ fn octile(dx: usize, dy: usize) -> usize
     requires { (dx ≤ 1024) × (dy ≤ 1024) }
     ensures { result ≡ octile dx dy }
 {
-    1000 * edge::most(dx, dy) + 414 * edge::least(dx, dy)
+    1000 * dx.max(dy) + 414 * dx.min(dy)
 }
 
 // Whether the cell of a column is inside, in the row whose gaps to the sources and to the targets are given.

@@ -1,8 +1,6 @@
 -- `windowedges::low`: the sum of two cells less the reach, halved; a negative edge is 0.
-use mathlib.Core.Path.{◌≡◌, sym, ap, ◌∙◌}
+use mathlib.Core.Path.{ap, ◌∙◌}
 use native.Mathlib.Omega.{arith}
-use mir.Val.{SFits}
-use mir.Syntax.{w32}
 use Rattle.walkgraph.specs.Window.{floor_half, or_zero, window_low}
 use Rattle.cells.specs.Boxes.{reach}
 use Rattle.cells.proofs.Casts.{greatest, cast}
