@@ -1,35 +1,26 @@
--- Signed numbers of 32 bits as the code reads them from their bits (`to_z w32 (of_z w32 z)`), tests them against 0 and casts them.
-use mathlib.Core.Path.{◌≡◌, refl}
-use mathlib.Core.Bool.{true, false}
-use Prim.Native.Nat.{ℕ}
+-- Signed numbers of 32 bits as the code reads them from their bits (`to_z w32 (of_z w32 z)`), raises them to 0 and casts them.
+use mathlib.Core.Path.{◌≡◌, refl, ◌∙◌}
+use Prim.Native.Nat.{ℕ, zero, suc}
 use native.Mathlib.Omega.{arith}
 use lib.IntN.{ℤ, pos, negsuc, nat_abs}
-use lib.Signed.{lt_z, non_neg}
+use lib.Signed.{non_neg}
+use borrow.Author.Tests.{lt-ltb}
 use lib.Dec.{T}
-use borrow.Author.Tests.{ltb-true}
 use mir.Syntax.{w32, w64}
 use mir.Val.{SFits, Fits, to_z, of_z}
 use mir.ValLaws.{to_z-of_z}
 use Rattle.walkgraph.specs.Window.{or_zero}
-use Rattle.cells.proofs.Bools.{clash}
+use Rattle.std.specs.Int.{int_max}
 
--- ---- the test against 0
-below_zero : (z : ℤ) → lt_z z (pos 0) ≡ true → or_zero z ≡ 0
+-- ---- the greater of a number and 0
+raised : (z : ℤ) → int_max z (pos 0) ≡ pos (or_zero z)
 unfolding or_zero
-below_zero (pos n) e = absurd (omega (arith, ltb-true n 0 e))
-below_zero (negsuc n) e = refl
+raised (pos zero) = refl
+raised (pos (suc n)) = rw (lt-ltb 0 (suc n) (omega arith))
+raised (negsuc n) = refl
 
-from_zero : (z : ℤ) → lt_z z (pos 0) ≡ false → z ≡ pos (or_zero z)
-unfolding or_zero
-from_zero (pos n) e = refl
-from_zero (negsuc n) e = absurd (clash e)
-
-module _ (z : ℤ) (f : SFits w32 z) where
-  pub negative : lt_z (to_z w32 (of_z w32 z)) (pos 0) ≡ true → or_zero z ≡ 0
-  negative e = below_zero z (rw (to_z-of_z w32 z f) at e)
-
-  pub natural : lt_z (to_z w32 (of_z w32 z)) (pos 0) ≡ false → z ≡ pos (or_zero z)
-  natural e = from_zero z (rw (to_z-of_z w32 z f) at e)
+pub greatest : (z m : ℤ) → SFits w32 z → m ≡ int_max (to_z w32 (of_z w32 z)) (pos 0) → m ≡ pos (or_zero z)
+greatest z m f e = e ∙ rw (to_z-of_z w32 z f) (raised z)
 
 -- ---- the cast of a number that is not negative: it may be made, and gives the number
 module _ (z : ℤ) (f : SFits w32 z) (n : ℕ) (e : z ≡ pos n) where

@@ -28,10 +28,7 @@ pub fn clamp(pixel: i32, size: usize) -> usize
     requires { size ≤ 1024 }
     ensures { result ≡ clamp (8 * size) pixel }
 {
-    if pixel < 0 {
-        return 0;
-    }
-    least(pixel as usize, 8 * size)
+    (pixel.max(0) as usize).min(8 * size)
 }
 
 // The cell that a pixel lies in.

@@ -7,7 +7,6 @@ ghost use Rattle.cells.specs.Boxes.{reach, box_of};
 ghost use Rattle.gaps.specs.Inside.{Beside, inside_in_row};
 
 use cells::boxes::CellBox;
-use cells::edge;
 use windowedges::REACH;
 
 // The distance of a value to an interval, 0 in it.
@@ -15,10 +14,7 @@ pub fn gap(value: usize, low: usize, high: usize) -> usize
     requires { low ≤ high }
     ensures { result ≡ gap value low high }
 {
-    if value < low {
-        return low - value;
-    }
-    edge::past(high, value)
+    low.saturating_sub(value) + value.saturating_sub(high)
 }
 
 // The octile cost of an offset.
@@ -26,17 +22,28 @@ fn octile(dx: usize, dy: usize) -> usize
     requires { (dx ≤ 1024) × (dy ≤ 1024) }
     ensures { result ≡ octile dx dy }
 {
-    1000 * edge::most(dx, dy) + 414 * edge::least(dx, dy)
+    1000 * dx.max(dy) + 414 * dx.min(dy)
 }
 
-// Whether the cell of a column is inside, in the row whose gaps to the sources and to the targets are given.
-pub fn inside(x: usize, sources: CellBox, source: usize, targets: CellBox, target: usize) -> bool
-    requires { (x ≤ 1024) × Beside sources source × Beside targets target }
-    ensures { result ≡ inside_in_row reach (box_of sources) source (box_of targets) target x }
-{
-    let from_sources = octile(gap(x, sources.left, sources.right), source);
-    let to_targets = octile(gap(x, targets.left, targets.right), target);
-    from_sources + to_targets <= 1000 * REACH
+// What decides which columns of one row are inside: the boxes of the sources and of the targets, and the row's gaps to them.
+#[derive(Clone, Copy)]
+pub struct RowGaps {
+    pub sources: CellBox,
+    pub targets: CellBox,
+    pub source: usize,
+    pub target: usize,
+}
+
+impl RowGaps {
+    // Whether the cell of a column is inside.
+    pub fn inside(self, x: usize) -> bool
+        requires { (x ≤ 1024) × Beside self.sources self.source × Beside self.targets self.target }
+        ensures { result ≡ inside_in_row reach (box_of self.sources) self.source (box_of self.targets) self.target x }
+    {
+        let from_sources = octile(gap(x, self.sources.left, self.sources.right), self.source);
+        let to_targets = octile(gap(x, self.targets.left, self.targets.right), self.target);
+        from_sources + to_targets <= 1000 * REACH
+    }
 }
 
 // A column of a window, from 0, counted with padding.

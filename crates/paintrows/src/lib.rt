@@ -11,8 +11,8 @@ pub fn paint_row(walk: &mut [u8], from: usize, count: usize)
     requires { (x : ℕ) → x < count → from + x < length walk.old }
     ensures { entries walk.new ≡ placed (entries walk.old) from count zeros }
 {
-    for x in 0..count {
-        walk[from + x] = 0;
+    if count > 0 {
+        walk[from..from + count].fill(0);
     }
 }
 
@@ -21,9 +21,7 @@ pub fn paint_rows(walk: &mut [u8], stride: usize, first: usize, rows: usize, cou
     requires { PaintRows stride first rows count (length walk.old) }
     ensures { entries walk.new ≡ rows_placed (entries walk.old) first stride rows count (λ _. zeros) }
 {
-    let mut from = first;
     for y in 0..rows {
-        paint_row(walk, from, count);
-        from += stride;
+        paint_row(walk, first + y * stride, count);
     }
 }

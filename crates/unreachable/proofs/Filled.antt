@@ -1,29 +1,36 @@
--- Lanes made unreachable one after the other.
+-- Lanes of which a first part was made unreachable.
 use mathlib.Core.Path.{◌≡◌, sym, ◌∙◌, ap}
-use mathlib.Core.List.{List}
-use Prim.Native.Nat.{ℕ, ◌+◌, ◌<◌}
+use mathlib.Core.List.{List, ◌++◌}
+use Prim.Native.Nat.{ℕ, ◌+◌, ◌-◌, ◌≤◌, ◌<◌}
 use native.Mathlib.Omega.{arith}
 use lib.IntN.{ℤ, pos}
-use lib.ListN.{length, set}
-use lib.Seq.{get_or-set_same, get_or-set_other}
+use lib.ListN.{length, take, drop, replicate, get_or, get_or-append}
+use lib.Seq.{get_or-drop, length-take-le}
+use Rattle.std.proofs.lemmas.List.{get_or-replicate, length-replicate, get_or-append_right}
 use Rattle.walkgraph.specs.Lists.{placed}
 use Rattle.walkgraph.proofs.Lists.{placed_in, placed_above, by_place}
 use Rattle.lane.specs.Levels.{level, level_at}
 
-pub filled_set : (d : List ℤ) (F : ℕ → ℕ) (n : ℕ) (v : ℤ) (top : ℕ) → n < length d → level v ≡ top → level_at d ≡ placed F 0 n (λ k. top) → level_at (set d n v) ≡ placed F 0 (n + 1) (λ k. top)
-filled_set d F n v top b e h = λ k j. same j k
+pub filled : (d part : List ℤ) (n : ℕ) (v : ℤ) (top : ℕ) → n ≤ length d → level v ≡ top → part ≡ replicate (length (take n d)) v →
+    level_at (part ++ drop n d) ≡ placed (level_at d) 0 n (λ (k : ℕ). top)
+filled d part n v top h e f =
+    λ t j.
+    by_place (λ j. level_at (part ++ drop n d) j ≡ placed (level_at d) 0 n (λ (k : ℕ). top) j) 0 n j
+    (λ q. absurd (omega arith))
+    (λ k q.
+    let z : 0 + k ≡ k = omega arith in
+    rw z (ap level (get_or-append part (drop n d) (pos 0) k (omega (arith, long)) ∙ inside k (omega arith)) ∙ e) ∙ sym (placed_in (level_at d) 0 n (λ (k : ℕ). top) k q))
+    (λ q.
+    let z : n + (j - n) ≡ j = omega arith in
+    ap level (get_or-append_right part (drop n d) n j (pos 0) long (omega arith) ∙ get_or-drop n d (j - n) (pos 0))
+    ∙ rw z (sym (placed_above (level_at d) 0 n (λ (k : ℕ). top) j q)))
+    t
   where
-    inside : (n j : ℕ) → j < n → placed F 0 n (λ k. top) j ≡ top
-    inside n j q = let z : 0 + j ≡ j = omega arith in rw z at (placed_in F 0 n (λ k. top) j q)
+    taken : length (take n d) ≡ n
+    taken = length-take-le n d h
 
-    same : (j : ℕ) → level_at (set d n v) j ≡ placed F 0 (n + 1) (λ k. top) j
-    same j =
-        by_place (λ j. level_at (set d n v) j ≡ placed F 0 (n + 1) (λ k. top) j) n 1 j
-        (λ q. ap level (get_or-set_other d n j v (pos 0) (λ r. omega arith)) ∙ ap (λ (f : ℕ → ℕ). f j) h ∙ inside n j q ∙ sym (inside (n + 1) j (omega arith)))
-        (λ i q.
-        let z : n + i ≡ n = omega arith in
-        rw z (ap level (get_or-set_same d n v (pos 0) b) ∙ e ∙ sym (inside (n + 1) n (omega arith))))
-        (λ q. ap level (get_or-set_other d n j v (pos 0) (λ r. omega arith)) ∙ ap (λ (f : ℕ → ℕ). f j) h ∙ placed_above F 0 n (λ k. top) j (omega arith) ∙ sym (placed_above F 0 (n + 1) (λ k. top) j (omega arith)))
+    long : length part ≡ n
+    long = ap length f ∙ length-replicate (length (take n d)) v ∙ taken
 
-pub filled_none : (F : ℕ → ℕ) (top : ℕ) → F ≡ placed F 0 0 (λ k. top)
-filled_none F top = λ i j. sym (placed_above F 0 0 (λ k. top) j (omega arith)) i
+    inside : (k : ℕ) → k < n → get_or part k (pos 0) ≡ v
+    inside k q = rw f (get_or-replicate (length (take n d)) k v (pos 0) (omega (arith, taken)))

@@ -10,7 +10,5 @@ pub fn fill(lanes: &mut [i16], count: usize)
     requires { count ≤ length lanes.old }
     ensures { level_at lanes.new ≡ placed (level_at lanes.old) 0 count (λ (k : ℕ). 65535) }
 {
-    for k in 0..count {
-        lanes[k] = 32767;
-    }
+    lanes[..count].fill(32767);
 }

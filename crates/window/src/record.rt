@@ -18,55 +18,57 @@ pub struct Window {
     pub lanes: usize,
 }
 
-// The window of a call with no resources.
-pub fn nothing(lanes: usize) -> Window
-    ensures { as_record result ≡ no_window lanes }
-{
-    Window {
-        left: 0,
-        top: 0,
-        width: 0,
-        height: 0,
-        lanes,
+impl Window {
+    // The window of a call with no resources.
+    pub fn nothing(lanes: usize) -> Window
+        ensures { as_record result ≡ no_window lanes }
+    {
+        Window {
+            left: 0,
+            top: 0,
+            width: 0,
+            height: 0,
+            lanes,
+        }
     }
-}
 
-// The window around sources and targets, on a map of width by height.
-pub fn window_of(
-    sources: CellBox,
-    targets: CellBox,
-    width: usize,
-    height: usize,
-    lanes: usize,
-) -> Window
-    requires { OnMap width height (box_of sources) (box_of targets) }
-    ensures { result ≡ window_over (window reach width height (box_of sources) (box_of targets)) lanes }
-{
-    let left = windowedges::low(sources.left, targets.left);
-    let top = windowedges::low(sources.top, targets.top);
-    let right = windowedges::high(sources.right, targets.right, width);
-    let bottom = windowedges::high(sources.bottom, targets.bottom, height);
-    Window {
-        left,
-        top,
-        width: right + 1 - left,
-        height: bottom + 1 - top,
-        lanes,
+    // The window around sources and targets, on a map of width by height.
+    pub fn around(
+        sources: CellBox,
+        targets: CellBox,
+        width: usize,
+        height: usize,
+        lanes: usize,
+    ) -> Window
+        requires { OnMap width height (box_of sources) (box_of targets) }
+        ensures { result ≡ window_over (window reach width height (box_of sources) (box_of targets)) lanes }
+    {
+        let left = windowedges::low(sources.left, targets.left);
+        let top = windowedges::low(sources.top, targets.top);
+        let right = windowedges::high(sources.right, targets.right, width);
+        let bottom = windowedges::high(sources.bottom, targets.bottom, height);
+        Window {
+            left,
+            top,
+            width: right + 1 - left,
+            height: bottom + 1 - top,
+            lanes,
+        }
     }
-}
 
-// The cells of one row, with padding.
-pub fn stride(window: Window) -> usize
-    requires { window.width ≤ 1024 }
-    ensures { result ≡ window.width + 2 }
-{
-    window.width + 2
-}
+    // The cells of one row, with padding.
+    pub fn stride(self) -> usize
+        requires { self.width ≤ 1024 }
+        ensures { result ≡ self.width + 2 }
+    {
+        self.width + 2
+    }
 
-// All cells, with padding.
-pub fn padded(window: Window) -> usize
-    requires { (window.width ≤ 1024) × (window.height ≤ 1024) }
-    ensures { result ≡ (window.height + 2) * (window.width + 2) }
-{
-    (window.width + 2) * (window.height + 2)
+    // All cells, with padding.
+    pub fn padded(self) -> usize
+        requires { (self.width ≤ 1024) × (self.height ≤ 1024) }
+        ensures { result ≡ (self.height + 2) * (self.width + 2) }
+    {
+        (self.width + 2) * (self.height + 2)
+    }
 }

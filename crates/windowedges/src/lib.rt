@@ -5,8 +5,6 @@ ghost use Rattle.std.specs.Prelude.{◌≡◌, ◌≤◌};
 ghost use Rattle.walkgraph.specs.Window.{floor_half, window_low, window_high};
 ghost use Rattle.cells.specs.Boxes.{reach};
 
-use cells::edge;
-
 // How far a walk in the cap reaches, in straight steps.
 pub const REACH: usize = 96;
 
@@ -22,8 +20,7 @@ pub fn low(source: usize, target: usize) -> usize
     requires { (source ≤ 1024) × (target ≤ 1024) }
     ensures { result ≡ window_low reach source target }
 {
-    let middle = half(source as i32 + target as i32 - REACH as i32);
-    if middle < 0 { 0 } else { middle as usize }
+    half(source as i32 + target as i32 - REACH as i32).max(0) as usize
 }
 
 // The window's last column or row, on a map of size columns or rows.
@@ -32,5 +29,5 @@ pub fn high(source: usize, target: usize, size: usize) -> usize
     ensures { result ≡ window_high reach size source target }
 {
     let middle = half(source as i32 + target as i32 + REACH as i32);
-    edge::least(middle as usize, size - 1)
+    (middle as usize).min(size - 1)
 }

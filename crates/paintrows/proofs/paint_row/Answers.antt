@@ -1,34 +1,25 @@
--- `paintrows::paint_row`: the bytes that the loop passed are 0, and the others stay.
-use mathlib.Core.Path.{◌≡◌, refl}
+-- `paintrows::paint_row`: the part that was filled comes back in its place; where no byte is painted, nothing changes.
+use mathlib.Core.Path.{◌≡◌, ap, ◌∙◌}
+use mathlib.Core.List.{List}
+use Prim.Native.Nat.{ℕ, ◌+◌, ◌-◌, ◌≤◌}
 use native.Mathlib.Omega.{arith}
-use lib.ListN.{length-set}
-use Rattle.window.specs.Fills.{zeros}
-use Rattle.window.proofs.Fills.{placed_none, placed_store}
+use lib.ListN.{length, take, drop, replicate, length-take, length-drop}
+use borrow.Rule.Slice.PartMut.{put_mid}
+use Rattle.std.proofs.lemmas.List.{get_or-replicate, length-replicate}
+use Rattle.walkgraph.specs.Lists.{placed}
+use Rattle.window.specs.Fills.{entries, zeros}
+use Rattle.window.proofs.Fills.{placed_none, part_back}
 use Rattle.paintrows.proofs.paint_row.Goals as goal
 
-pub loop-x-init : goal.loop-x-init
-loop-x-init c = (omega arith, refl, placed_none _ _ zeros _ (omega arith))
+filled : (buffer part : List ℕ) (start k n : ℕ) → k ≡ n → start + n ≤ length buffer → part ≡ replicate (length (take k (drop start buffer))) 0 →
+    entries (put_mid start k buffer part) ≡ placed (entries buffer) start n zeros
+filled buffer part start k n e h f =
+    let taken : length (take k (drop start buffer)) ≡ n = simp (length-take, length-drop) (omega arith) in
+    part_back buffer part start k n zeros e h (ap length f ∙ length-replicate (length (take k (drop start buffer))) 0 ∙ taken)
+    (λ i q. rw f (get_or-replicate (length (take k (drop start buffer))) i 0 0 (omega arith)))
 
-pub overflow_add-walk : goal.overflow_add-walk
-overflow_add-walk c = omega (arith, c.requires c.loop-x.x c.loop-x-test.true)
+pub returns-then-count-gt0 : goal.returns-then-count-gt0
+returns-then-count-gt0 c = filled _ _ _ _ c.args.count (omega arith) (omega (arith, c.requires (c.args.count - 1) (omega arith))) (c.fill.ensures.after (λ y e. e))
 
-pub bounds-walk-from : goal.bounds-walk-from
-bounds-walk-from c = omega (arith, c.requires c.loop-x.x c.loop-x-test.true)
-
-pub overflow_step-x : goal.overflow_step-x
-overflow_step-x c = omega arith
-
-pub loop-x-smaller : goal.loop-x-smaller
-loop-x-smaller c = omega arith
-
-pub loop-x-preserved : goal.loop-x-preserved
-loop-x-preserved c =
-    let l = c.loop-x in
-    let h = c.requires l.x c.loop-x-test.true in
-    (omega arith, simp length-set (omega arith), placed_store _ _ zeros l.x _ 0 l.walk refl (omega arith) refl l.invariant.2)
-
-pub shape_of-walk : goal.shape_of-walk
-shape_of-walk c = omega arith
-
-pub returns : goal.returns
-returns c = let e : c.loop-x.x ≡ c.args.count = omega arith in rw e at c.loop-x.invariant.2
+pub returns-else-count-gt0 : goal.returns-else-count-gt0
+returns-else-count-gt0 c = placed_none _ _ zeros _ (omega arith)

@@ -1,7 +1,7 @@
--- `window::record::nothing`: no cell.
+-- `window::record::Window::nothing`: no cell.
 use mathlib.Core.Path.{refl}
 use Rattle.walkgraph.specs.Reading.{no_window}
-use Rattle.window.proofs.record.nothing.Goals as goal
+use Rattle.window.proofs.record.Window.nothing.Goals as goal
 
 pub returns : goal.returns
 unfolding no_window

@@ -1,9 +1,9 @@
--- `window::record::window_of`: each edge is that of the walk graph's window, which is not empty.
+-- `window::record::Window::around`: each edge is that of the walk graph's window, which is not empty.
 use native.Mathlib.Omega.{arith}
 use Rattle.walkgraph.specs.Window.{window}
 use Rattle.cells.specs.Boxes.{reach}
 use Rattle.window.proofs.Edges.{columns, lines}
-use Rattle.window.proofs.record.window_of.Goals as goal
+use Rattle.window.proofs.record.Window.around.Goals as goal
 
 pub overflow_add-result : goal.overflow_add-result
 overflow_add-result c = let p = c.requires in omega (arith, p.wide, columns reach _ _ _ _ p.sources p.targets)
