@@ -15,20 +15,16 @@ pub fn deepest(states: &[u16], width: usize, point: u32) -> bool
 }
 
 // The next cell and the two that share a side with both ends are walkable. Of a straight move those are the two ends.
+#[tactic(auto, unfolding(crate::specs::Looks::opens))]
 pub fn open(states: &[u16], next: usize, first: usize, second: usize) -> bool
     requires { (next < length states.now) × (first < length states.now) × (second < length states.now) }
     ensures { result ≡ opens states.now next first second }
 {
-    if states[next] == 0 {
-        return false;
-    }
-    if states[first] == 0 {
-        return false;
-    }
-    states[second] > 0
+    states[next] > 0 && states[first] > 0 && states[second] > 0
 }
 
 // The highest state that a cell does not look at: labels below its own and its own. At depth 15 it looks at every walkable neighbour.
+#[tactic(auto, unfolding(crate::specs::Looks::highest))]
 pub fn highest(state: u16) -> u16
     ensures { result ≡ highest state }
 {

@@ -7,10 +7,10 @@ pub fn begin(parents: &mut [u16], ranks: &mut [u8])
     requires { (length ranks.old ≡ length parents.old) × (length parents.old ≤ 512) }
     ensures { Begun parents.old parents.new ranks.new }
 {
-    for i in 0..parents.len() {
-        parents[i] = i as u16;
-        ranks[i] = 0;
+    for (i, parent) in parents.iter_mut().enumerate() {
+        *parent = i as u16;
     }
+    ranks.fill(0);
 }
 
 // The root of a member, found by following parents. The path to it is shortened on the way back.
