@@ -1,5 +1,5 @@
 // Reading a number from 0 on at a place of a text, up to the first byte that is no part of it.
-ghost use Rattle.std.specs.Prelude.{◌≡◌, pos, drop, take_while, length};
+ghost use Rattle.std.specs.Prelude.{◌≡◌, pos, take_while, length};
 ghost use Rattle.decimal.specs.Numbers.{is_digit, Reads};
 ghost use Rattle.decimal.specs.Answers.{natural_found};
 
