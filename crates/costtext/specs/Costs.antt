@@ -1,14 +1,12 @@
 -- Document 01, "Room text and the program": the cost of a cell for a resource as text.
-use Rattle.std.specs.Prelude.{List, [], ◌∷◌, ℕ, ℤ, pos, get_or}
+use Rattle.std.specs.Prelude.{List, [], ◌∷◌, ℕ, ℤ, pos, get_or, Option, Some, None}
 use Rattle.decimal.specs.Numbers.{decimal_of}
 use Rattle.halfcost.specs.Costs.{cost_of}
-use Rattle.halfcost.specs.declared.Cost.{Cost}
-use Rattle.halfcost.specs.declared.Cost.TheVariants.{Half, Unreachable}
 
 -- a half cost, or `-`, 45, for none
-unfoldable pub cost_bytes : Cost → List ℕ
-cost_bytes (Half half) = decimal_of (pos half)
-cost_bytes Unreachable = 45 ∷ []
+unfoldable pub cost_bytes : Option ℕ → List ℕ
+cost_bytes (Some half) = decimal_of (pos half)
+cost_bytes None = 45 ∷ []
 
 -- "one half cost per resource, `-` for unreachable"
 unfoldable pub cost_text : ℤ → List ℕ

@@ -5,26 +5,14 @@ ghost use Rattle.std.specs.Prelude.{◌≡◌, ◌≤◌};
 ghost use Rattle.walkgraph.specs.Lanes.{bias, lane_of};
 ghost use Rattle.halfcost.specs.Costs.{cost_of};
 
-use lane::value;
-
-// What a lane says: a half cost, or that there is no way within the reach.
-#[derive(Drop)]
-pub enum Cost {
-    Half(u16),
-    Unreachable,
-}
-
-// The cost that a lane holds. A lane below half cost 0 holds none, and reads as unreachable.
-pub fn half_cost(lane: i16) -> Cost
+// The half cost that a lane holds, if there is a way within the reach. A lane below half cost 0 holds none, and reads as unreachable.
+pub fn half_cost(lane: i16) -> Option<u16>
     ensures { result ≡ cost_of lane }
 {
-    if lane < value::ZERO {
-        return Cost::Unreachable;
+    if lane == i16::MAX {
+        return None;
     }
-    if lane == 32767 {
-        return Cost::Unreachable;
-    }
-    Cost::Half((lane as i32 + 15234) as u16)
+    u16::try_from(i32::from(lane) + 15234).ok()
 }
 
 // The lane that holds a half cost of at most 48,000.
@@ -32,5 +20,5 @@ pub fn lane_of(half: u16) -> i16
     requires { half ≤ 48000 }
     ensures { result ≡ lane_of (bias 96) half }
 {
-    (half as i32 - 15234) as i16
+    (i32::from(half) - 15234) as i16
 }

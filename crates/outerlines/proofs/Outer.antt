@@ -7,6 +7,7 @@ use lib.ListN.{length, get_or, length-append}
 use Rattle.walkgraph.specs.Reading.{WindowRecord}
 use Rattle.ringlists.specs.Places.{in_order}
 use Rattle.ringlists.proofs.Places.{in_order_more}
+use Rattle.page.specs.declared.Page.{Page}
 use Rattle.page.specs.Puts.{Puts}
 use Rattle.page.specs.Lines.{window_line, sweeps_line, cells_line, field_line}
 use Rattle.page.proofs.Putting.{puts_none, puts_more}
@@ -33,15 +34,15 @@ module _ (fields : List ℕ) where
   fields_more r = in_order_more (λ i. field_line (get_or fields i 0)) r
 
 -- ---- text of at most so many bytes, one after another
-pub within_none : (before : List ℕ) (at : ℕ) → PutsWithin 0 [] before at before at
-within_none before at = record { puts = puts_none before at; short = omega arith }
+pub within_none : (page : Page) → PutsWithin 0 [] page page
+within_none page = record { puts = puts_none page; short = omega arith }
 
-pub within_more : {m n : ℕ} {p q before middle after : List ℕ} {at end last : ℕ} → PutsWithin m p before at middle end → PutsWithin n q middle end after last → PutsWithin (m + n) (p ++ q) before at after last
+pub within_more : {m n : ℕ} {p q : List ℕ} {before middle after : Page} → PutsWithin m p before middle → PutsWithin n q middle after → PutsWithin (m + n) (p ++ q) before after
 within_more l r = record { puts = puts_more l.puts r.puts; short = omega (arith, l.short, r.short) }
 
-pub within_most : {m : ℕ} (n : ℕ) {p before after : List ℕ} {at end : ℕ} → m ≤ n → PutsWithin m p before at after end → PutsWithin n p before at after end
+pub within_most : {m : ℕ} (n : ℕ) {p : List ℕ} {before after : Page} → m ≤ n → PutsWithin m p before after → PutsWithin n p before after
 within_most n h l = record { puts = l.puts; short = omega (arith, l.short) }
 
 -- text that is short
-pub within_length : (most : ℕ) {p before after : List ℕ} {at end : ℕ} → length p ≤ most → Puts p before at after end → PutsWithin most p before at after end
+pub within_length : (most : ℕ) {p : List ℕ} {before after : Page} → length p ≤ most → Puts p before after → PutsWithin most p before after
 within_length most h l = record { puts = l; short = omega (arith, l.ends) }

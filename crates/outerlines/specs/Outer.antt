@@ -2,6 +2,7 @@
 use Rattle.std.specs.Prelude.{List, ◌++◌, ℕ, ◌+◌, ◌*◌, ◌≤◌, ◌<◌, length, get_or}
 use Rattle.walkgraph.specs.Reading.{WindowRecord}
 use Rattle.ringlists.specs.Places.{in_order}
+use Rattle.page.specs.declared.Page.{Page}
 use Rattle.page.specs.Puts.{Puts}
 use Rattle.page.specs.Lines.{window_line, sweeps_line, cells_line, groups_line, field_line}
 
@@ -19,19 +20,19 @@ group_lines groups fields resources = groups_line groups ++ field_lines fields r
 
 -- ---- what a page must have room for
 -- a field's number is a u16, so its line has at most 6 bytes
-pub record FieldsRoom (fields : List ℕ) (resources at : ℕ) (page : List ℕ) : Type 0 where
+pub record FieldsRoom (fields : List ℕ) (resources : ℕ) (page : Page) : Type 0 where
   pub known : resources ≤ length fields
   pub few : resources ≤ 8
-  pub text : at + resources * 6 ≤ length page
+  pub text : page.at + resources * 6 ≤ length page.bytes.now
 
 -- the lines of the fields have room, and each number has one digit
-pub record GroupsRoom (groups : ℕ) (fields : List ℕ) (resources at : ℕ) (page : List ℕ) : Type 0 where
+pub record GroupsRoom (groups : ℕ) (fields : List ℕ) (resources : ℕ) (page : Page) : Type 0 where
   pub known : resources ≤ length fields
   pub few : resources ≤ 8
   pub fewer : groups < 10
-  pub text : at + 9 + resources * 6 ≤ length page
+  pub text : page.at + 9 + resources * 6 ≤ length page.bytes.now
 
 -- text put on a page, at most so many bytes
-pub record PutsWithin (most : ℕ) (bytes before : List ℕ) (at : ℕ) (after : List ℕ) (end : ℕ) : Type 0 where
-  pub puts : Puts bytes before at after end
-  pub short : end ≤ at + most
+pub record PutsWithin (most : ℕ) (bytes : List ℕ) (before after : Page) : Type 0 where
+  pub puts : Puts bytes before after
+  pub short : after.at ≤ before.at + most

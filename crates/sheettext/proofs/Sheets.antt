@@ -6,6 +6,7 @@ use lib.IntN.{ℤ}
 use lib.ListN.{length}
 use Rattle.walkgraph.specs.Map.{Box}
 use Rattle.walkgraph.specs.Reading.{WindowRecord}
+use Rattle.page.specs.declared.Page.{Page}
 use Rattle.page.specs.Puts.{Puts, Room}
 use Rattle.page.proofs.Putting.{puts_length}
 use Rattle.outerlines.specs.Outer.{head_lines, group_lines, GroupsRoom, PutsWithin}
@@ -17,19 +18,19 @@ use Rattle.targetbox.proofs.Few.{cells_few}
 use Rattle.sheettext.specs.Sheets.{sheet_text, SheetRoom}
 
 -- ---- the whole sheet
-module _ {window : WindowRecord} {sweeps : ℕ} {targets : Box} {resources groups : ℕ} {fields page : List ℕ} (s : SheetRoom window sweeps targets resources groups fields page) where
+module _ {window : WindowRecord} {sweeps : ℕ} {targets : Box} {resources groups : ℕ} {fields : List ℕ} {page : Page} (s : SheetRoom window sweeps targets resources groups fields page) where
   head_short : length (head_lines window sweeps (target_cells targets)) ≤ 45
   head_short = head_most window sweeps (target_cells targets) s.left s.top s.width s.height s.swept (omega (arith, cells_few targets s.box))
 
-  pub sheet_head : Room (head_lines window sweeps (target_cells targets)) 0 page
+  pub sheet_head : Room (head_lines window sweeps (target_cells targets)) page
   sheet_head = record { room = omega (arith, head_short, s.text) }
 
-  module _ (lanes : List ℤ) {middle : List ℕ} {first : ℕ} (head : Puts (head_lines window sweeps (target_cells targets)) page 0 middle first) where
-    pub sheet_targets : TargetRoom window lanes resources targets first middle
+  module _ (lanes : List ℤ) {middle : Page} (head : Puts (head_lines window sweeps (target_cells targets)) page middle) where
+    pub sheet_targets : TargetRoom window lanes resources targets middle
     sheet_targets = record { box = s.box; text = record { room = omega (arith, head.ends, head_short, targets_most window lanes resources targets s.few s.box, puts_length head, s.text) } }
 
-    module _ {last : List ℕ} {second : ℕ} (rows : Puts (target_lines window lanes resources targets) middle first last second) where
-      pub sheet_groups : GroupsRoom groups fields resources second last
+    module _ {last : Page} (rows : Puts (target_lines window lanes resources targets) middle last) where
+      pub sheet_groups : GroupsRoom groups fields resources last
       sheet_groups =
           record {
             known = s.known;
@@ -38,7 +39,7 @@ module _ {window : WindowRecord} {sweeps : ℕ} {targets : Box} {resources group
             text = omega (arith, head.ends, head_short, rows.ends, targets_most window lanes resources targets s.few s.box, puts_length rows, puts_length head, s.text, s.few);
           }
 
-      pub sheet_all : {after : List ℕ} {end : ℕ} → PutsWithin 57 (group_lines groups fields resources) last second after end → PutsWithin 200000 (sheet_text window sweeps targets lanes resources groups fields) page 0 after end
+      pub sheet_all : {after : Page} → PutsWithin 57 (group_lines groups fields resources) last after → PutsWithin 200000 (sheet_text window sweeps targets lanes resources groups fields) page after
       unfolding sheet_text
       sheet_all ends =
           within_most 200000 (omega arith)

@@ -7,14 +7,12 @@ ghost use Rattle.outerlines.specs.Outer.{PutsWithin};
 ghost use Rattle.sheettext.specs.Sheets.{sheet_text, SheetRoom};
 
 use cells::boxes::CellBox;
-use outerlines;
-use targetbox;
-use targetlines;
+use page::Page;
 use window::record::Window;
 
-// Puts the whole sheet from the page's start on. It answers the place after it.
+// Puts the whole sheet.
 pub fn sheet(
-    page: &mut [u8],
+    page: &mut Page<'_>,
     window: Window,
     sweeps: usize,
     targets: CellBox,
@@ -22,13 +20,12 @@ pub fn sheet(
     resources: usize,
     fields: usize,
     answers: &[u16],
-) -> usize
+)
     requires { SheetRoom (as_record window) sweeps (box_of targets) resources fields answers.now page.old }
     ensures { PutsWithin 200000 (sheet_text (as_record window) sweeps (box_of targets) lanes.now resources fields answers.now)
-        page.old 0 page.new result }
+        page.old page.new }
 {
-    let cells = targetbox::target_cells(targets);
-    let first = outerlines::head(page, 0, window, sweeps, cells);
-    let second = targetlines::rows(page, first, window, lanes, resources, targets);
-    outerlines::groups(page, second, fields, answers, resources)
+    outerlines::head(page, window, sweeps, targetbox::target_cells(targets));
+    targetlines::rows(page, window, lanes, resources, targets);
+    outerlines::groups(page, fields, answers, resources);
 }

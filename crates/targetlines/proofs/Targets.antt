@@ -1,5 +1,5 @@
 -- The lines of the target cells, one after another, and how long they are at most.
-use mathlib.Core.Path.{◌≡◌, refl, sym}
+use mathlib.Core.Path.{◌≡◌, sym}
 use mathlib.Core.List.{List, [], ◌++◌}
 use Prim.Native.Nat.{ℕ, ◌+◌, ◌-◌, ◌≤◌, ◌<◌}
 use native.Mathlib.Omega.{arith}
@@ -11,57 +11,70 @@ use Rattle.cells.specs.Boxes.{InMap}
 use Rattle.reading.specs.Parts.{part_of}
 use Rattle.ringlists.specs.Places.{in_order}
 use Rattle.ringlists.proofs.Places.{in_order_more, in_order_up, in_order_most}
+use Rattle.page.specs.declared.Page.{Page}
 use Rattle.page.specs.Puts.{Puts}
 use Rattle.page.proofs.Putting.{puts_more}
 use Rattle.celllines.proofs.Lines.{cell_most}
 use Rattle.targetlines.specs.Targets.{line_at, row_lines, target_lines}
 
 module _ (window : WindowRecord) (lanes : List ℤ) (resources : ℕ) (targets : Box) where
-  -- ---- the first cells of row y
-  unfoldable pub first_lines : (y k : ℕ) → List ℕ
-  first_lines y k = in_order (λ i. line_at window lanes resources (targets.left + i) y) k
+  -- ---- the cells of row y left of column x
+  unfoldable pub lines_before : (y x : ℕ) → List ℕ
+  lines_before y x = in_order (λ i. line_at window lanes resources (targets.left + i) y) (x - targets.left)
 
-  pub lines_none : (y : ℕ) → first_lines y 0 ≡ []
-  unfolding first_lines in_order
-  lines_none y = refl
+  pub lines_none : (y : ℕ) → lines_before y targets.left ≡ []
+  unfolding lines_before in_order
+  lines_none y = let e : targets.left - targets.left ≡ 0 = omega arith in rw e
 
-  lines_more : (y k : ℕ) → first_lines y (k + 1) ≡ first_lines y k ++ line_at window lanes resources (targets.left + k) y
-  unfolding first_lines
-  lines_more y k = in_order_more (λ i. line_at window lanes resources (targets.left + i) y) k
+  lines_more : (y x : ℕ) → targets.left ≤ x → lines_before y (x + 1) ≡ lines_before y x ++ line_at window lanes resources x y
+  unfolding lines_before
+  lines_more y x h =
+      let e : x + 1 - targets.left ≡ x - targets.left + 1 = omega arith in
+      let f : targets.left + (x - targets.left) ≡ x = omega arith in
+      rw (e, in_order_more (λ i. line_at window lanes resources (targets.left + i) y) (x - targets.left), f)
 
-  pub lines_put : (y k : ℕ) {before middle after : List ℕ} {at end last : ℕ} → Puts (first_lines y k) before at middle end → Puts (line_at window lanes resources (targets.left + k) y) middle end after last → Puts (first_lines y (k + 1)) before at after last
-  lines_put y k l m = rw (lines_more y k) (puts_more l m)
+  pub lines_put : (y x : ℕ) {before middle after : Page} → targets.left ≤ x → Puts (lines_before y x) before middle → Puts (line_at window lanes resources x y) middle after → Puts (lines_before y (x + 1)) before after
+  lines_put y x h l m = rw (lines_more y x h) (puts_more l m)
 
-  pub lines_room : (y k : ℕ) → k < targets.right + 1 - targets.left → length (first_lines y k ++ line_at window lanes resources (targets.left + k) y) ≤ length (row_lines window lanes resources targets y)
-  unfolding first_lines row_lines
-  lines_room y k h = rw (sym (lines_more y k)) (in_order_up (λ i. line_at window lanes resources (targets.left + i) y) (k + 1) (targets.right + 1 - targets.left) (omega arith))
+  lines_up : (y x : ℕ) → x ≤ targets.right → length (lines_before y (x + 1)) ≤ length (row_lines window lanes resources targets y)
+  unfolding lines_before row_lines
+  lines_up y x h = in_order_up (λ i. line_at window lanes resources (targets.left + i) y) (x + 1 - targets.left) (targets.right + 1 - targets.left) (omega arith)
 
-  pub lines_all : (y k : ℕ) → k ≡ targets.right + 1 - targets.left → first_lines y k ≡ row_lines window lanes resources targets y
-  unfolding first_lines row_lines
-  lines_all y k e = rw e
+  pub lines_room : (y x : ℕ) → targets.left ≤ x → x ≤ targets.right → length (lines_before y x ++ line_at window lanes resources x y) ≤ length (row_lines window lanes resources targets y)
+  lines_room y x h i = rw (sym (lines_more y x h)) (lines_up y x i)
 
-  -- ---- the first rows
-  unfoldable pub first_rows : (k : ℕ) → List ℕ
-  first_rows k = in_order (λ i. row_lines window lanes resources targets (targets.top + i)) k
+  pub lines_all : (y x : ℕ) → x ≡ targets.right → lines_before y (x + 1) ≡ row_lines window lanes resources targets y
+  unfolding lines_before row_lines
+  lines_all y x e = rw e
 
-  pub rows_none : first_rows 0 ≡ []
-  unfolding first_rows in_order
-  rows_none = refl
+  -- ---- the rows above row y
+  unfoldable pub rows_before : (y : ℕ) → List ℕ
+  rows_before y = in_order (λ i. row_lines window lanes resources targets (targets.top + i)) (y - targets.top)
 
-  rows_more : (k : ℕ) → first_rows (k + 1) ≡ first_rows k ++ row_lines window lanes resources targets (targets.top + k)
-  unfolding first_rows
-  rows_more k = in_order_more (λ i. row_lines window lanes resources targets (targets.top + i)) k
+  pub rows_none : rows_before targets.top ≡ []
+  unfolding rows_before in_order
+  rows_none = let e : targets.top - targets.top ≡ 0 = omega arith in rw e
 
-  pub rows_put : (k : ℕ) {before middle after : List ℕ} {at end last : ℕ} → Puts (first_rows k) before at middle end → Puts (row_lines window lanes resources targets (targets.top + k)) middle end after last → Puts (first_rows (k + 1)) before at after last
-  rows_put k l m = rw (rows_more k) (puts_more l m)
+  rows_more : (y : ℕ) → targets.top ≤ y → rows_before (y + 1) ≡ rows_before y ++ row_lines window lanes resources targets y
+  unfolding rows_before
+  rows_more y h =
+      let e : y + 1 - targets.top ≡ y - targets.top + 1 = omega arith in
+      let f : targets.top + (y - targets.top) ≡ y = omega arith in
+      rw (e, in_order_more (λ i. row_lines window lanes resources targets (targets.top + i)) (y - targets.top), f)
 
-  pub rows_room : (k : ℕ) → k < targets.bottom + 1 - targets.top → length (first_rows k ++ row_lines window lanes resources targets (targets.top + k)) ≤ length (target_lines window lanes resources targets)
-  unfolding first_rows target_lines
-  rows_room k h = rw (sym (rows_more k)) (in_order_up (λ i. row_lines window lanes resources targets (targets.top + i)) (k + 1) (targets.bottom + 1 - targets.top) (omega arith))
+  pub rows_put : (y : ℕ) {before middle after : Page} → targets.top ≤ y → Puts (rows_before y) before middle → Puts (row_lines window lanes resources targets y) middle after → Puts (rows_before (y + 1)) before after
+  rows_put y h l m = rw (rows_more y h) (puts_more l m)
 
-  pub rows_all : (k : ℕ) → k ≡ targets.bottom + 1 - targets.top → first_rows k ≡ target_lines window lanes resources targets
-  unfolding first_rows target_lines
-  rows_all k e = rw e
+  rows_up : (y : ℕ) → y ≤ targets.bottom → length (rows_before (y + 1)) ≤ length (target_lines window lanes resources targets)
+  unfolding rows_before target_lines
+  rows_up y h = in_order_up (λ i. row_lines window lanes resources targets (targets.top + i)) (y + 1 - targets.top) (targets.bottom + 1 - targets.top) (omega arith)
+
+  pub rows_room : (y : ℕ) → targets.top ≤ y → y ≤ targets.bottom → length (rows_before y ++ row_lines window lanes resources targets y) ≤ length (target_lines window lanes resources targets)
+  rows_room y h i = rw (sym (rows_more y h)) (rows_up y i)
+
+  pub rows_all : (y : ℕ) → y ≡ targets.bottom → rows_before (y + 1) ≡ target_lines window lanes resources targets
+  unfolding rows_before target_lines
+  rows_all y e = rw e
 
   -- ---- how long they are at most
   line_most : (x y : ℕ) → resources ≤ 8 → x < 60 → y < 60 → length (line_at window lanes resources x y) ≤ 54

@@ -5,6 +5,7 @@ use Rattle.walkgraph.specs.Reading.{WindowRecord, read_part}
 use Rattle.cells.specs.Boxes.{InMap}
 use Rattle.reading.specs.Parts.{part_of}
 use Rattle.ringlists.specs.Places.{in_order}
+use Rattle.page.specs.declared.Page.{Page}
 use Rattle.page.specs.Puts.{Room}
 use Rattle.celllines.specs.Costs.{cell_line}
 
@@ -21,18 +22,18 @@ unfoldable pub target_lines : WindowRecord → (lanes : List ℤ) → (resources
 target_lines window lanes resources targets = in_order (λ k. row_lines window lanes resources targets (targets.top + k)) (targets.bottom + 1 - targets.top)
 
 -- ---- what a page must have room for, on maps of at most 60 by 60 cells
-pub record LineRoom (window : WindowRecord) (lanes : List ℤ) (resources x y at : ℕ) (page : List ℕ) : Type 0 where
+pub record LineRoom (window : WindowRecord) (lanes : List ℤ) (resources x y : ℕ) (page : Page) : Type 0 where
   pub column : x < 60
   pub row : y < 60
-  pub text : Room (line_at window lanes resources x y) at page
+  pub text : Room (line_at window lanes resources x y) page
 
 -- the lines of row y have room
-pub record RowRoom (window : WindowRecord) (lanes : List ℤ) (resources : ℕ) (targets : Box) (y at : ℕ) (page : List ℕ) : Type 0 where
+pub record RowRoom (window : WindowRecord) (lanes : List ℤ) (resources : ℕ) (targets : Box) (y : ℕ) (page : Page) : Type 0 where
   pub box : InMap 60 60 targets
   pub row : y < 60
-  pub text : Room (row_lines window lanes resources targets y) at page
+  pub text : Room (row_lines window lanes resources targets y) page
 
 -- the lines of all target cells have room
-pub record TargetRoom (window : WindowRecord) (lanes : List ℤ) (resources : ℕ) (targets : Box) (at : ℕ) (page : List ℕ) : Type 0 where
+pub record TargetRoom (window : WindowRecord) (lanes : List ℤ) (resources : ℕ) (targets : Box) (page : Page) : Type 0 where
   pub box : InMap 60 60 targets
-  pub text : Room (target_lines window lanes resources targets) at page
+  pub text : Room (target_lines window lanes resources targets) page

@@ -1,4 +1,4 @@
-// The lines of the target cells, row by row, put on a page. Each function answers the place after what it put.
+// The lines of the target cells, row by row, put on a page.
 #![tactic(auto)]
 
 ghost use Rattle.cells.specs.Boxes.{box_of};
@@ -7,68 +7,41 @@ ghost use Rattle.page.specs.Puts.{Puts};
 ghost use Rattle.targetlines.specs.Targets.{line_at, row_lines, target_lines, LineRoom, RowRoom, TargetRoom};
 
 use cells::boxes::CellBox;
+use page::Page;
 use window::record::Window;
 
 // Puts the line of the cell (x, y), whose lanes are read by the window's record.
-fn line(
-    page: &mut [u8],
-    at: usize,
-    window: Window,
-    lanes: &[i16],
-    resources: usize,
-    x: usize,
-    y: usize,
-) -> usize
-    requires { LineRoom (as_record window) lanes.now resources x y at page.old }
-    ensures { Puts (line_at (as_record window) lanes.now resources x y) page.old at page.new result }
+fn line(page: &mut Page<'_>, window: Window, lanes: &[i16], resources: usize, x: usize, y: usize)
+    requires { LineRoom (as_record window) lanes.now resources x y page.old }
+    ensures { Puts (line_at (as_record window) lanes.now resources x y) page.old page.new }
 {
     let part = reading::at(window, lanes, x as u32, y as u32);
-    celllines::cell(page, at, x, y, part, resources)
+    celllines::cell(page, x, y, part, resources);
 }
 
 // Puts the lines of the target cells of row y.
 fn row(
-    page: &mut [u8],
-    at: usize,
+    page: &mut Page<'_>,
     window: Window,
     lanes: &[i16],
     resources: usize,
     targets: CellBox,
     y: usize,
-) -> usize
-    requires { RowRoom (as_record window) lanes.now resources (box_of targets) y at page.old }
-    ensures { Puts (row_lines (as_record window) lanes.now resources (box_of targets) y) page.old at page.new result }
+)
+    requires { RowRoom (as_record window) lanes.now resources (box_of targets) y page.old }
+    ensures { Puts (row_lines (as_record window) lanes.now resources (box_of targets) y) page.old page.new }
 {
-    let mut end = at;
-    for k in 0..targets.right + 1 - targets.left {
-        end = line(page, end, window, lanes, resources, targets.left + k, y);
+    for x in targets.left..=targets.right {
+        line(page, window, lanes, resources, x, y);
     }
-    end
 }
 
 // Puts the lines of all target cells.
-pub fn rows(
-    page: &mut [u8],
-    at: usize,
-    window: Window,
-    lanes: &[i16],
-    resources: usize,
-    targets: CellBox,
-) -> usize
-    requires { TargetRoom (as_record window) lanes.now resources (box_of targets) at page.old }
-    ensures { Puts (target_lines (as_record window) lanes.now resources (box_of targets)) page.old at page.new result }
+pub fn rows(page: &mut Page<'_>, window: Window, lanes: &[i16], resources: usize, targets: CellBox)
+    requires { TargetRoom (as_record window) lanes.now resources (box_of targets) page.old }
+    ensures { Puts (target_lines (as_record window) lanes.now resources (box_of targets)) page.old page.new }
 {
-    let mut end = at;
-    for k in 0..targets.bottom + 1 - targets.top {
-        end = row(
-            page,
-            end,
-            window,
-            lanes,
-            resources,
-            targets,
-            targets.top + k,
-        );
+    for y in targets.top..=targets.bottom {
+        row(page, window, lanes, resources, targets, y);
     }
-    end
 }

@@ -1,51 +1,39 @@
 -- `outerlines::fields`: the lines of the resources that the loop passed are put; a u16 has at most five digits.
-use mathlib.Core.Path.{◌≡◌}
+use mathlib.Core.Path.{◌≡◌, ◌∙◌}
+use Prim.Native.Nat.{◌<◌}
 use native.Mathlib.Omega.{arith}
-use lib.ListN.{get_or}
+use lib.ListN.{get_or, length-take}
+use Rattle.std.proofs.lemmas.List.{get_or-take}
 use Rattle.page.specs.Lines.{field_line}
 use Rattle.page.proofs.Lengths.{then_most}
 use Rattle.page.proofs.Putting.{puts_length}
 use Rattle.outerlines.proofs.Outer.{fields_none, fields_more, within_none, within_more, within_most, within_length}
+use Rattle.outerlines.proofs.fields.Goals.{After-from}
 use Rattle.outerlines.proofs.fields.Goals as goal
 
-pub loop-r-init : goal.loop-r-init
-loop-r-init c =
-    let a = c.args in
-    (omega arith, rw (fields_none a.answers.now) (within_most _ (omega arith) (within_none _ _)))
+-- the loop stops at the last resource
+below : (c : After-from) → c.loop-answer.answer-index < c.args.resources
+below c = omega (arith, c.loop-answer-test.true, length-take c.args.resources c.args.answers.now)
 
-pub offset_bounds-answers-r : goal.offset_bounds-answers-r
-offset_bounds-answers-r c = omega (arith, c.requires.few)
+-- the number that is put
+answer : (c : After-from) → c.from.result ≡ get_or c.args.answers.now c.loop-answer.answer-index 0
+answer c = let h = below c in c.from.ensures ∙ get_or-take c.args.resources c.args.answers.now c.loop-answer.answer-index 0 h
 
-pub bounds-answers-r : goal.bounds-answers-r
-bounds-answers-r c = omega (arith, c.requires.known)
+pub loop-answer-init : goal.loop-answer-init
+loop-answer-init c = rw (fields_none c.args.answers.now) (within_none _)
 
-pub overflow_cast-answers : goal.overflow_cast-answers
-overflow_cast-answers c = omega (arith, c.shared_slice_known-in-loop-r-1.given c.loop-r.r)
+pub number_then-requires : goal.number_then-requires
+number_then-requires c =
+    let l = c.loop-answer in
+    let at = (goal.at.number_then-requires c).After-from in
+    let line = then_most 5 c.from.result 10 (omega arith) (omega (arith, answer at, c.type_inv.answers l.answer-index)) in
+    record { room = omega (arith, line, l.invariant.short, puts_length l.invariant.puts, c.requires.text, below at) }
 
-pub number_then-end-requires : goal.number_then-end-requires
-number_then-end-requires c =
-    let l = c.loop-r in
-    let line = then_most 5 (get_or c.args.answers.now l.r 0) 10 (omega arith) (omega (arith, c.shared_slice_known-in-loop-r-1.given l.r)) in
-    record { room = omega (arith, line, l.invariant.1.short, puts_length l.invariant.1.puts, c.requires.text, c.loop-r-test.true) }
-
-pub overflow_step-r : goal.overflow_step-r
-overflow_step-r c = omega arith
-
-pub loop-r-smaller : goal.loop-r-smaller
-loop-r-smaller c = omega arith
-
-pub loop-r-preserved : goal.loop-r-preserved
+pub loop-answer-preserved : goal.loop-answer-preserved
 unfolding field_line
-loop-r-preserved c =
+loop-answer-preserved c =
     let answers = c.args.answers.now in
-    let l = c.loop-r in
-    let line = within_length 6 (then_most 5 (get_or answers l.r 0) 10 (omega arith) (omega (arith, c.shared_slice_known-in-loop-r-1.given l.r))) c.number_then-end.ensures in
-    (omega arith, rw (fields_more answers l.r) (within_most _ (omega arith) (within_more l.invariant.1 line)))
-
-pub shape_of-page : goal.shape_of-page
-shape_of-page c = puts_length c.loop-r.invariant.1.puts
-
-pub returns : goal.returns
-returns c =
-    let e : c.loop-r.r ≡ c.args.resources = omega arith in
-    within_most 48 (omega (arith, c.requires.few)) (rw e at c.loop-r.invariant.1)
+    let l = c.loop-answer in
+    let at = (goal.at.loop-answer-preserved c).After-from in
+    let line = within_length 6 (then_most 5 c.from.result 10 (omega arith) (omega (arith, answer at, c.type_inv.answers l.answer-index))) c.number_then.ensures in
+    rw (fields_more answers l.answer-index) (within_most _ (omega arith) (within_more l.invariant (rw (answer at) at line)))

@@ -7,15 +7,15 @@ use Rattle.outerlines.specs.Outer.{group_lines}
 use Rattle.outerlines.proofs.Outer.{within_more, within_length}
 use Rattle.outerlines.proofs.groups.Goals as goal
 
-pub word_line-end-requires : goal.word_line-end-requires
+pub word_line-requires : goal.word_line-requires
 unfolding groups_word groups_line
-word_line-end-requires c = record { room = omega (arith, c.requires.text, groups_most 1 c.args.groups (omega arith) c.requires.fewer) }
+word_line-requires c = record { room = omega (arith, c.requires.text, groups_most 1 c.args.groups (omega arith) c.requires.fewer) }
 
 pub fields-requires : goal.fields-requires
 unfolding groups_word groups_line
 fields-requires c =
     let p = c.requires in
-    let line = c.word_line-end.ensures in
+    let line = c.word_line.ensures in
     record {
       known = p.known;
       few = p.few;
@@ -25,4 +25,4 @@ fields-requires c =
 pub returns : goal.returns
 unfolding group_lines groups_word groups_line
 returns c =
-    within_more (within_length 9 (groups_most 1 c.args.groups (omega arith) c.requires.fewer) c.word_line-end.ensures) c.fields.ensures
+    within_more (within_length 9 (groups_most 1 c.args.groups (omega arith) c.requires.fewer) c.word_line.ensures) c.fields.ensures

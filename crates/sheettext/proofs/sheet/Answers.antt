@@ -2,17 +2,17 @@
 use Rattle.sheettext.proofs.Sheets.{sheet_head, sheet_targets, sheet_groups, sheet_all}
 use Rattle.sheettext.proofs.sheet.Goals as goal
 
-pub target_cells-cells-requires : goal.target_cells-cells-requires
-target_cells-cells-requires c = c.requires.box
+pub target_cells-requires : goal.target_cells-requires
+target_cells-requires c = c.requires.box
 
-pub head-first-requires : goal.head-first-requires
-head-first-requires c = rw c.target_cells-cells.ensures (sheet_head c.requires)
+pub head-requires : goal.head-requires
+head-requires c = rw c.target_cells.ensures (sheet_head c.requires)
 
-pub rows-second-requires : goal.rows-second-requires
-rows-second-requires c = sheet_targets c.requires c.args.lanes.now (rw c.target_cells-cells.ensures at c.head-first.ensures)
+pub rows-requires : goal.rows-requires
+rows-requires c = sheet_targets c.requires c.args.lanes.now (rw c.target_cells.ensures at c.head.ensures)
 
 pub groups-requires : goal.groups-requires
-groups-requires c = sheet_groups c.requires c.args.lanes.now (rw c.target_cells-cells.ensures at c.head-first.ensures) c.rows-second.ensures
+groups-requires c = sheet_groups c.requires c.args.lanes.now (rw c.target_cells.ensures at c.head.ensures) c.rows.ensures
 
 pub returns : goal.returns
-returns c = sheet_all c.requires c.args.lanes.now (rw c.target_cells-cells.ensures at c.head-first.ensures) c.rows-second.ensures c.groups.ensures
+returns c = sheet_all c.requires c.args.lanes.now (rw c.target_cells.ensures at c.head.ensures) c.rows.ensures c.groups.ensures
