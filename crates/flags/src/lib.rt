@@ -7,7 +7,6 @@ ghost use Rattle.window.specs.Fills.{entries, window_rows};
 ghost use Rattle.flags.specs.Flags.{flag_at, FlagRow, FlagRowAt, FlagRows, flag_rows};
 
 use cellflags;
-use window::record;
 use window::record::Window;
 
 // The flags of one row of count cells, from the three rows of walk bytes around it.
@@ -15,6 +14,7 @@ fn flag_row(walk: &[u8], stride: usize, flags: &mut [u8], count: usize)
     requires { FlagRow walk.now stride (length flags.old) count }
     ensures { entries flags.new ≡ placed (entries flags.old) 0 count (λ x. flag_at (entries walk.now) stride (stride + 1 + x)) }
 {
+    // Stays: a flag is made of five bytes at shifted places of three rows, and a chain that zips four shifted slices with the flags is no plainer.
     for x in 0..count {
         flags[x] = cellflags::flags_of(
             walk[stride + x + 1],
@@ -43,11 +43,9 @@ pub fn flag_rows(walk: &[u8], flags: &mut [u8], window: Window)
     requires { FlagRows window walk.now (length flags.old) }
     ensures { entries flags.new ≡ window_rows window (entries flags.old) (flag_rows window (entries walk.now)) }
 {
-    let stride = record::stride(window);
+    let stride = window.stride();
     let count = window.width;
-    let mut row = stride;
     for y in 0..window.height {
-        flag_row_at(walk, stride, flags, row, count);
-        row += stride;
+        flag_row_at(walk, stride, flags, (y + 1) * stride, count);
     }
 }

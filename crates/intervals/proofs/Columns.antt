@@ -1,5 +1,5 @@
 -- The searches for a row's first inside column and for the last.
-use mathlib.Core.Path.{◌≡◌, refl, sym}
+use mathlib.Core.Path.{◌≡◌, refl, sym, ◌∙◌}
 use mathlib.Core.Bool.{Bool, true, false, not, ◌&&◌}
 use Prim.Native.Nat.{ℕ, suc, ◌+◌, ◌-◌, ◌≤◌, ◌<◌}
 use native.Mathlib.Numerals.{add-one}
@@ -14,6 +14,8 @@ use Rattle.walkgraph.proofs.Lists.{first_from_lem, IsPast, nobody, somebody, pas
 use Rattle.cells.specs.declared.boxes.CellBox.{CellBox}
 use Rattle.cells.specs.Boxes.{reach, box_of}
 use Rattle.cells.proofs.Bools.{both}
+use Rattle.gaps.specs.declared.RowGaps.{RowGaps}
+use Rattle.gaps.specs.Inside.{inside_in_row}
 use Rattle.gaps.proofs.Gaps.{beside, inside_in_row_lem}
 use Rattle.window.specs.declared.record.Window.{Window}
 use Rattle.intervals.specs.Intervals.{InRow, inside_gaps, inside_columns, RowEnds}
@@ -40,48 +42,29 @@ module _ (test : ℕ → Bool) where
   first_none a = refl
 
   module _ (w : ℕ) where
-    pub start : first_from test (0 + 1) (w - 0) ≡ first_from test 1 w
+    pub start : first_from test 1 w ≡ first_from test (0 + 1) (w - 0)
     start = let e : w - 0 ≡ w = omega arith in rw e
 
-    -- the test that goes on, from the left
-    abbrev pub GoesOn : ℕ → Type 0
-    GoesOn c = (c < w) × (first_from test (c + 1) (w - c) ≡ first_from test (c + 1 + 1) (w - (c + 1)))
+    -- the search from the left, past a column that is not inside
+    pub goes_on : (first c : ℕ) → first ≡ first_from test (c + 1) (w - c) → c < w → test (c + 1) ≡ false → first ≡ first_from test (c + 1 + 1) (w - (c + 1))
+    goes_on first c s h e = let f : w - c ≡ suc (w - (c + 1)) = omega arith in s ∙ rw f (first_next (c + 1) (w - (c + 1)) e)
 
-    pub goes_on : (c : ℕ) → (ltb c w && not (test (c + 1))) ≡ true → GoesOn c
-    goes_on c e =
-        let b = both (ltb c w) (not (test (c + 1))) e in
-        let h = ltb-true c w b.0 in
-        let f : w - c ≡ suc (w - (c + 1)) = omega arith in
-        (h, rw f (first_next (c + 1) (w - (c + 1)) (not-true (test (c + 1)) b.1)))
+    pub ends_here : (first c : ℕ) → first ≡ first_from test (c + 1) (w - c) → c < w → test (c + 1) ≡ true → c + 1 ≡ first
+    ends_here first c s h e = let f : w - c ≡ suc (w - (c + 1)) = omega arith in sym (s ∙ rw f (first_here (c + 1) (w - (c + 1)) e))
 
-    pub ends_here : (c : ℕ) → c ≤ w → (ltb c w && not (test (c + 1))) ≡ false → first_from test (c + 1) (w - c) ≡ c + 1
-    ends_here c h e =
-        by_cases (dec_le (suc c) w)
-        (λ k.
-        let g : not (test (c + 1)) ≡ false = rw (lt-ltb c w k) at e in
-        let f : w - c ≡ suc (w - (c + 1)) = omega arith in
-        rw f (first_here (c + 1) (w - (c + 1)) (not-false (test (c + 1)) g)))
-        (λ k. let f : w - c ≡ 0 = omega arith in rw f (first_none (c + 1)))
+    pub ends_past : (first c : ℕ) → first ≡ first_from test (c + 1) (w - c) → c ≡ w → w + 1 ≡ first
+    ends_past first c s e = let f : w - c ≡ 0 = omega arith in sym (s ∙ rw (f, e) (first_none (w + 1)))
 
     -- the first one is in 1 .. w + 1
     pub first_most : (first : ℕ) → first + 1 ≡ first_from test 1 w → first ≤ w
     first_most first e = omega (arith, (first_from_lem test 1 w).high)
 
-    -- none of the last n columns passes
-    abbrev pub NoneOf : ℕ → Type 0
-    NoneOf n = (x : ℕ) → w - n < x → x ≤ w → ¬ (T (test x))
+    -- none of the columns after the first c passes
+    abbrev pub NoneAfter : ℕ → Type 0
+    NoneAfter c = (x : ℕ) → c < x → x ≤ w → ¬ (T (test x))
 
-    abbrev pub OneMore : ℕ → ℕ → Type 0
-    OneMore first n = (first + n < w) × NoneOf (n + 1)
-
-    pub one_more : (first n : ℕ) → NoneOf n → (ltb (first + n) w && not (test (w - n))) ≡ true → OneMore first n
-    one_more first n f e =
-        let b = both (ltb (first + n) w) (not (test (w - n))) e in
-        let h = ltb-true (first + n) w b.0 in (
-          h,
-          λ x p q.
-              by_cases (ℕ_discrete x (w - n)) (λ r. rw r (T_not_false (test (w - n)) (not-true (test (w - n)) b.1))) (λ r. f x (omega arith) q),
-        )
+    pub one_more : (c : ℕ) → NoneAfter (c + 1) → test (c + 1) ≡ false → NoneAfter c
+    one_more c f e = λ x p q. by_cases (ℕ_discrete x (c + 1)) (λ r. rw r (T_not_false (test (c + 1)) e)) (λ r. f x (omega arith) q)
 
     past_is : (none p : ℕ) → 1 ≤ p → p ≤ w → T (test p) → ((x : ℕ) → p < x → x ≤ w → ¬ (T (test x))) → p + 1 ≡ past_last test none w
     past_is none p a b t f = found (past_last_lem test none w)
@@ -100,20 +83,20 @@ module _ (test : ℕ → Bool) where
         found (nobody e g) = sym e
         found (somebody last q c d u g) = absurd ((first_from_lem test 1 w).none last c (omega arith) u)
 
-    pub none_ends : (first n : ℕ) → first + 1 ≡ first_from test 1 w → first + n ≤ w → NoneOf n → (ltb (first + n) w && not (test (w - n))) ≡ false →
-        w - n + 1 ≡ past_last test (w + 1) w
-    none_ends first n s h f e =
-        by_cases (dec_le (suc (first + n)) w)
-        (λ k.
-        let g : not (test (w - n)) ≡ false = rw (lt-ltb (first + n) w k) at e in
-        past_is (w + 1) (w - n) (omega arith) (omega arith) (true_T (test (w - n)) (not-false (test (w - n)) g)) f)
-        (λ k.
-        by_cases (ℕ_discrete n 0)
-        (λ z.
-        let q : first ≡ w = omega arith in
-        let r : w - n + 1 ≡ w + 1 = omega arith in
-        rw r (past_none (w + 1) (rw q at s)))
-        (λ z. let t = (first_from_lem test 1 w).some (omega arith) in absurd (f (first + 1) (omega arith) (omega arith) (rw s t))))
+    -- the search from the right ends at an inside column, or before the first one
+    pub last_here : (c : ℕ) → c < w → NoneAfter (c + 1) → test (c + 1) ≡ true → c + 1 + 1 ≡ past_last test (w + 1) w
+    last_here c h f e = past_is (w + 1) (c + 1) (omega arith) (omega arith) (true_T (test (c + 1)) e) f
+
+    pub none_here : (first : ℕ) → first + 1 ≡ first_from test 1 w → NoneAfter first → w + 1 ≡ past_last test (w + 1) w
+    none_here first s f =
+        by_cases (dec_le (suc first) w)
+        (λ k. let t = (first_from_lem test 1 w).some (omega arith) in absurd (f (first + 1) (omega arith) (omega arith) (rw s t)))
+        (λ k. let q : first ≡ w = omega (arith, first_most first s) in past_none (w + 1) (rw q at s))
+
+-- whether a column is inside, as the code asks
+pub tested : (w : Window) (g : RowGaps) (column : ℕ) (r : Bool) → r ≡ inside_in_row reach (box_of g.sources) g.source (box_of g.targets) g.target (w.left + column) → inside_gaps w g (column + 1) ≡ r
+unfolding inside_gaps
+tested w g column r e = let f : w.left + (column + 1) - 1 ≡ w.left + column = omega arith in rw f (sym e)
 
 -- a row's gaps to the boxes decide its inside columns
 pub gaps_columns : (w : Window) (s t : CellBox) (y source target : ℕ) → source ≡ gap (w.top + y) s.top s.bottom → target ≡ gap (w.top + y) t.top t.bottom →

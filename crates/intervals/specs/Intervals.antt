@@ -7,7 +7,7 @@ use Rattle.cells.specs.declared.boxes.CellBox.{CellBox}
 use Rattle.cells.specs.Boxes.{reach, box_of, InMap}
 use Rattle.gaps.specs.Inside.{Beside, inside_in_row}
 use Rattle.window.specs.declared.record.Window.{Window}
-use Rattle.intervals.specs.declared.rows.RowGaps.{RowGaps}
+use Rattle.gaps.specs.declared.RowGaps.{RowGaps}
 use Rattle.window.specs.Fills.{rows_placed}
 
 -- the window is in the limits of a map, and the boxes with their gaps too

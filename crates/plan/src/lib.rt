@@ -15,7 +15,6 @@ use refusals;
 use rings::ring;
 use rowbuffers;
 use targetbox;
-use window::record;
 use window::record::Window;
 
 // The lengths of the lent buffers.
@@ -36,7 +35,7 @@ fn room_ok(window: Window, lent: Lent) -> bool
     requires { (window.width ≤ 1024) × (window.height ≤ 1024) × (window.lanes ≤ 16) }
     ensures { result ≡ enough window lent }
 {
-    let cells = record::padded(window);
+    let cells = window.padded();
     cells * window.lanes <= lent.lanes
         && cells <= lent.walk
         && cells <= lent.flags
@@ -56,7 +55,7 @@ fn site_of(width: usize, height: usize, lanes: usize, resources: &[i32], targets
 {
     let sources = ring::sources(resources, width, height);
     let targets = targetbox::cells_of(targets);
-    let window = record::window_of(sources, targets, width, height, lanes);
+    let window = Window::around(sources, targets, width, height, lanes);
     Site {
         width,
         height,

@@ -21,38 +21,32 @@ pub struct Part {
 fn among(start: usize, count: usize, value: usize) -> bool
     ensures { result ≡ (leb start value && ltb (value - start) count) }
 {
-    if value < start {
-        return false;
-    }
-    value - start < count
+    start <= value && value - start < count
 }
 
 // Whether the record fits, and the map's cell (x, y) is in its window.
 fn holds(window: Window, length: usize, x: usize, y: usize) -> bool
     ensures { result ≡ (fits (as_record window) length && in_record (as_record window) x y) }
 {
-    if !windowrecord::fits(window, length) {
-        return false;
-    }
-    if !among(window.left, window.width, x) {
-        return false;
-    }
-    among(window.top, window.height, y)
+    windowrecord::fits(window, length)
+        && among(window.left, window.width, x)
+        && among(window.top, window.height, y)
 }
 
 // The part that belongs to the map's cell (x, y), of a buffer of so many lanes.
 pub fn cell_part(window: Window, length: usize, x: usize, y: usize) -> Part
     ensures { as_part result ≡ read_part (as_record window) length x y }
 {
-    if !holds(window, length, x, y) {
-        return Part {
+    if holds(window, length, x, y) {
+        Part {
+            start: windowrecord::start_of(window, x, y),
+            length: window.lanes,
+        }
+    } else {
+        Part {
             start: 0,
             length: 0,
-        };
-    }
-    Part {
-        start: windowrecord::start_of(window, x, y),
-        length: window.lanes,
+        }
     }
 }
 

@@ -6,9 +6,6 @@ ghost use Rattle.start.specs.Hits.{started_levels, row_hit, ring_hit, RowRoom, R
 
 use crate::stretch;
 use cells::boxes::CellBox;
-use cells::edge;
-use ringends;
-use window::record;
 use window::record::Window;
 
 // Starts one lane in row y of its ring box, of the window: in the columns that are inside.
@@ -27,8 +24,8 @@ fn start_row(
         (row_hit window walk.now rows.now (box_of ring) (box_of body) lane y) }
 {
     let row = y - window.top;
-    let first = edge::most(ring.left + 1, rows[2 * row] as usize + window.left);
-    let past = ringends::past_column(ring.right, rows[2 * row + 1] as usize + window.left);
+    let first = (ring.left + 1).max(usize::from(rows[2 * row]) + window.left);
+    let past = (ring.right + 2).min(usize::from(rows[2 * row + 1]) + window.left);
     stretch::start_cells(
         lanes,
         walk,
@@ -37,8 +34,8 @@ fn start_row(
         lane,
         first - 1,
         y,
-        (row + 1) * record::stride(window) + (first - window.left),
-        edge::past(first, past),
+        (row + 1) * window.stride() + (first - window.left),
+        past.saturating_sub(first),
     );
 }
 
@@ -56,9 +53,9 @@ pub fn start_ring(
     ensures { level_at lanes.new ≡ started_levels (level_at lanes.old)
         (ring_hit window walk.now rows.now (box_of ring) (box_of body) lane) }
 {
-    let first = edge::most(ring.top, window.top);
-    let past = ringends::past_row(ring.bottom, window.top + window.height);
-    for n in 0..edge::past(first, past) {
-        start_row(lanes, walk, rows, window, ring, body, lane, first + n);
+    let first = ring.top.max(window.top);
+    let past = (ring.bottom + 1).min(window.top + window.height);
+    for y in first..past {
+        start_row(lanes, walk, rows, window, ring, body, lane, y);
     }
 }

@@ -1,30 +1,22 @@
--- The window on the map: where its rows start.
-use Prim.Native.Nat.{ℕ, ◌+◌, ◌*◌, ◌≤◌, ◌<◌}
-use native.Mathlib.Nat.{add-mul, mul-le-mul, mul-le-mul_right}
+-- A row of the map's cells, copied into its place among the walk bytes.
+use mathlib.Core.Path.{◌≡◌, ap, ◌∙◌}
+use mathlib.Core.List.{List}
+use Prim.Native.Nat.{ℕ, ◌+◌, ◌*◌, ◌≤◌}
 use native.Mathlib.Omega.{arith}
+use lib.ListN.{length, take, drop, length-take, length-drop}
+use borrow.Rule.Slice.PartMut.{put_mid}
+use Rattle.walkgraph.specs.Lists.{placed}
 use Rattle.window.specs.declared.record.Window.{Window}
-use Rattle.walkbytes.specs.Copies.{Copies}
-use Rattle.window.proofs.Fills.{row_room}
+use Rattle.window.specs.Fills.{entries}
+use Rattle.window.proofs.Fills.{part_entries, part_back}
+use Rattle.walkbytes.specs.Copies.{map_rows}
 
-pub start_low : {w : Window} {width cells walk : ℕ} → Copies w width cells walk → w.top * width ≤ 1048576
-start_low {w} {width} f = let t : w.top ≤ 1024 = omega (arith, f.high) in mul-le-mul t f.wide
-
--- row y of the window, in the map and in the walk bytes
-pub record CopyRow (w : Window) (width cells walk y : ℕ) : Type 0 where
-  pub from : w.top * width + w.left + y * width + w.width ≤ cells
-  pub low : w.top * width + w.left + y * width + width ≤ 1049600
-  pub to : w.width + 2 + y * (w.width + 2) + 2 * (w.width + 2) ≤ walk
-
-pub copy_row_lem : {w : Window} {width cells walk : ℕ} → Copies w width cells walk → (y : ℕ) → y < w.height → CopyRow w width cells walk y
-copy_row_lem {w} {width} {cells} {walk} f y h =
-    let c = f.columns in
-    let r = f.rows in
-    let o = f.room in
-    let d = f.wide in
-    let u = f.high in
-    let q : (w.top + y + 1) * width ≤ (w.top + w.height) * width = mul-le-mul_right width (omega arith) in
-    let m : (w.top + w.height) * width ≤ 1024 * 1024 = mul-le-mul u d in
-    let a = add-mul (w.top + y) 1 width in
-    let b = add-mul w.top y width in
-    let t = row_room y w.height (w.width + 2) h in
-    record { from = omega arith; low = omega arith; to = omega arith }
+pub row_copied : (w : Window) (width : ℕ) (cells buffer part : List ℕ) (y at to k from m : ℕ) → at ≡ to → from ≡ w.top * width + w.left + y * width → k ≡ w.width → m ≡ w.width →
+    from + w.width ≤ length cells → to + w.width ≤ length buffer → part ≡ take m (drop from cells) →
+    entries (put_mid to k buffer part) ≡ placed (entries buffer) at w.width (map_rows w width cells y)
+unfolding map_rows
+row_copied w width cells buffer part y at to k from m p e f g h i j =
+    let long : length part ≡ w.width = ap length j ∙ simp (length-take, length-drop) (omega arith) in
+    rw p
+    (part_back buffer part to k w.width (map_rows w width cells y) f i long
+    (λ x q. ap (λ (b : List ℕ). entries b x) j ∙ part_entries from m cells x (omega arith) ∙ ap (λ (n : ℕ). entries cells (n + x)) e))

@@ -6,27 +6,36 @@ ghost use Rattle.walkbytes.specs.Painting.{Paints, Pixels, box_painted, blocker_
 use cells::edge;
 use fournumbers;
 use paintrows;
-use window::record;
 use window::record::Window;
 
+// A rectangle of pixels of the map, right and bottom exclusive.
+#[derive(Clone, Copy)]
+struct PixelBox {
+    left: usize,
+    top: usize,
+    right: usize,
+    bottom: usize,
+}
+
 // Paints the cells of a rectangle of clamped pixels that lie in the window.
-fn paint_box(walk: &mut [u8], window: Window, left: usize, top: usize, right: usize, bottom: usize)
-    requires { Paints window (length walk.old) × Pixels left top right bottom }
-    ensures { entries walk.new ≡ box_painted window left top right bottom (entries walk.old) }
+fn paint_box(walk: &mut [u8], window: Window, pixels: PixelBox)
+    requires { Paints window (length walk.old) × Pixels pixels.left pixels.top pixels.right pixels.bottom }
+    ensures { entries walk.new ≡ box_painted window pixels.left pixels.top pixels.right pixels.bottom (entries walk.old) }
 {
-    if right <= left {
-        return;
+    if pixels.left < pixels.right && pixels.top < pixels.bottom {
+        let left = edge::cell_of(pixels.left).max(window.left);
+        let top = edge::cell_of(pixels.top).max(window.top);
+        let right = edge::cell_past(pixels.right).min(window.left + window.width);
+        let bottom = edge::cell_past(pixels.bottom).min(window.top + window.height);
+        let stride = window.stride();
+        paintrows::paint_rows(
+            walk,
+            stride,
+            (top - window.top + 1) * stride + (left - window.left + 1),
+            bottom.saturating_sub(top),
+            right.saturating_sub(left),
+        );
     }
-    if bottom <= top {
-        return;
-    }
-    let stride = record::stride(window);
-    let x0 = edge::most(edge::cell_of(left), window.left);
-    let y0 = edge::most(edge::cell_of(top), window.top);
-    let x1 = edge::least(edge::cell_past(right), window.left + window.width);
-    let y1 = edge::least(edge::cell_past(bottom), window.top + window.height);
-    let first = (y0 - window.top + 1) * stride + (x0 - window.left + 1);
-    paintrows::paint_rows(walk, stride, first, edge::past(y0, y1), edge::past(x0, x1));
 }
 
 // Paints blocker k, on a map of width by height.
@@ -45,10 +54,12 @@ fn paint_blocker(
     paint_box(
         walk,
         window,
-        edge::clamp(corners.left, width),
-        edge::clamp(corners.top, height),
-        edge::clamp(corners.right, width),
-        edge::clamp(corners.bottom, height),
+        PixelBox {
+            left: edge::clamp(corners.left, width),
+            top: edge::clamp(corners.top, height),
+            right: edge::clamp(corners.right, width),
+            bottom: edge::clamp(corners.bottom, height),
+        },
     );
 }
 

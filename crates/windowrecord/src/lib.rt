@@ -6,7 +6,6 @@ ghost use Rattle.walkgraph.specs.Reading.{fits};
 ghost use Rattle.window.specs.Windows.{as_record};
 ghost use Rattle.windowrecord.specs.Records.{has_room, OfCell};
 
-use window::record;
 use window::record::Window;
 
 // Whether a record is in the limits of a map, and its lanes are no more than length.
@@ -14,26 +13,14 @@ fn room(window: Window, length: usize) -> bool
     requires { window.lanes ≤ 16 }
     ensures { result ≡ has_room (as_record window) length }
 {
-    if 1024 < window.width {
-        return false;
-    }
-    if 1024 < window.height {
-        return false;
-    }
-    record::padded(window) * window.lanes <= length
+    window.width <= 1024 && window.height <= 1024 && window.padded() * window.lanes <= length
 }
 
 // Whether a record is one that a buffer of so many lanes holds.
 pub fn fits(window: Window, length: usize) -> bool
     ensures { result ≡ fits (as_record window) length }
 {
-    if window.lanes == 8 {
-        return room(window, length);
-    }
-    if window.lanes == 16 {
-        return room(window, length);
-    }
-    false
+    matches!(window.lanes, 8 | 16) && room(window, length)
 }
 
 // Where the lanes of the cell start.
@@ -43,5 +30,5 @@ pub fn start_of(window: Window, x: usize, y: usize) -> usize
 {
     let row = y - window.top + 1;
     let column = x - window.left + 1;
-    (row * record::stride(window) + column) * window.lanes
+    (row * window.stride() + column) * window.lanes
 }

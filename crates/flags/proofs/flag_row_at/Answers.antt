@@ -23,5 +23,5 @@ pub returns : goal.returns
 returns c =
     let a = c.args in
     part_back a.flags.now c.flag_row.new.flags (a.row + 1) (a.row + 1 + a.count - (a.row + 1)) a.count _ (omega arith) (omega arith)
-    (c.flags-1.given.0 ∙ simp (length-take, length-drop) (omega arith))
+    (c.flag_row.auto.flags ∙ simp (length-take, length-drop) (omega arith))
     (part_flags a.walk.now c.flag_row.new.flags _ a.stride a.row a.count (a.row + 2 * a.stride - (a.row - a.stride)) (omega arith) (omega arith) (omega arith) c.flag_row.ensures)

@@ -34,10 +34,10 @@ cells_of-targets-requires c =
     let t = along (goal.at.cells_of-targets-requires c).After-sources-sources in
     record { left = s.low_is; top = t.low_is; right = s.high_is; bottom = t.high_is }
 
-pub window_of-window-requires : goal.window_of-window-requires
-window_of-window-requires c =
-    let s = across (goal.at.window_of-window-requires c).After-sources-sources in
-    let t = along (goal.at.window_of-window-requires c).After-sources-sources in
+pub around-window-requires : goal.around-window-requires
+around-window-requires c =
+    let s = across (goal.at.around-window-requires c).After-sources-sources in
+    let t = along (goal.at.around-window-requires c).After-sources-sources in
     record {
       wide = c.requires.rings.wide;
       high = c.requires.rings.high;
@@ -47,9 +47,9 @@ window_of-window-requires c =
 
 pub returns : goal.returns
 returns c =
-    let e = c.window_of-window.ensures in
+    let e = c.around-window.ensures in
     record {
-      good = record { on_map = window_of-window-requires (goal.at.returns c).After-cells_of-targets; over = over _ _ _ e; count = few _ _ _ e c.requires.count };
+      good = record { on_map = around-window-requires (goal.at.returns c).After-cells_of-targets; over = over _ _ _ e; count = few _ _ _ e c.requires.count };
       columns = omega arith;
       rows = omega arith;
       from = c.sources-sources.ensures;

@@ -9,14 +9,8 @@ use Rattle.window.proofs.Fills.{placed_two}
 use Rattle.intervals.proofs.Columns.{first_most, gaps_columns, row_in}
 use Rattle.intervals.proofs.rows.write_row.Goals as goal
 
-pub overflow_add-window : goal.overflow_add-window
-overflow_add-window c = omega (arith, c.requires.1, c.requires.0.lines)
-
 pub gap-requires : goal.gap-requires
 gap-requires c = c.requires.0.sources.along
-
-pub overflow_add-window-2 : goal.overflow_add-window-2
-overflow_add-window-2 c = omega (arith, c.requires.1, c.requires.0.lines)
 
 pub gap-requires-2 : goal.gap-requires-2
 gap-requires-2 c = c.requires.0.targets.along
@@ -24,41 +18,11 @@ gap-requires-2 c = c.requires.0.targets.along
 pub first_inside-first-requires : goal.first_inside-first-requires
 first_inside-first-requires c = row_in c.requires.0 c.requires.1 c.gap.ensures c.gap-2.ensures
 
-pub after_inside-after-requires : goal.after_inside-after-requires
-after_inside-after-requires c = (row_in c.requires.0 c.requires.1 c.gap.ensures c.gap-2.ensures, c.first_inside-first.ensures)
+pub past_inside-past-requires : goal.past_inside-past-requires
+past_inside-past-requires c = (row_in c.requires.0 c.requires.1 c.gap.ensures c.gap-2.ensures, c.first_inside-first.ensures)
 
 pub padded-requires : goal.padded-requires
 padded-requires c = omega (arith, first_most _ _ _ c.first_inside-first.ensures, c.requires.0.columns)
-
-pub overflow_mul-rows : goal.overflow_mul-rows
-overflow_mul-rows c = omega (arith, c.requires.1, c.requires.0.lines)
-
-pub offset_bounds-rows-y : goal.offset_bounds-rows-y
-offset_bounds-rows-y c = omega (arith, c.requires.1, c.requires.0.lines)
-
-pub bounds-rows-y : goal.bounds-rows-y
-bounds-rows-y c = omega (arith, c.requires.1, c.requires.0.room)
-
-pub overflow_sub-window : goal.overflow_sub-window
-overflow_sub-window c = c.after_inside-after.ensures.0
-
-pub padded-requires-2 : goal.padded-requires-2
-padded-requires-2 c = omega (arith, c.requires.0.columns)
-
-pub overflow_mul-rows-2 : goal.overflow_mul-rows-2
-overflow_mul-rows-2 c = omega (arith, c.requires.1, c.requires.0.lines)
-
-pub overflow_add-rows : goal.overflow_add-rows
-overflow_add-rows c = omega (arith, c.requires.1, c.requires.0.lines)
-
-pub offset_bounds-rows-y-2 : goal.offset_bounds-rows-y-2
-offset_bounds-rows-y-2 c = omega (arith, c.requires.1, c.requires.0.lines)
-
-pub bounds-rows-y-2 : goal.bounds-rows-y-2
-bounds-rows-y-2 c = rw (length-set _ _ _) (omega (arith, c.requires.0.room))
-
-pub shape_of-rows : goal.shape_of-rows
-shape_of-rows c = simp length-set refl
 
 pub returns : goal.returns
 unfolding ends
@@ -67,5 +31,5 @@ returns c =
     let e = gaps_columns a.window a.sources a.targets a.y _ _ c.gap.ensures c.gap-2.ensures in
     placed_two _ (2 * a.y) (ends a.window (box_of a.sources) (box_of a.targets) (a.y + 1)) _ _ a.rows.now (omega (arith, c.requires.0.room))
     (c.padded.ensures ∙ c.first_inside-first.ensures ∙ ap (first_of a.window) e)
-    (c.padded-2.ensures ∙ c.after_inside-after.ensures.1 ∙ ap (past_of a.window) e)
+    (c.padded-2.ensures ∙ c.past_inside-past.ensures.1 ∙ ap (past_of a.window) e)
     refl

@@ -1,15 +1,11 @@
 -- `ringbox::start_ring`: the rows that the loop passed have started.
 use mathlib.Core.Path.{◌≡◌}
 use Prim.Native.Nat.{◌+◌, ◌-◌, ◌≤◌}
-use lib.ListN.{length}
 use Rattle.lane.specs.Levels.{level_at}
 use Rattle.cells.specs.Boxes.{box_of}
 use Rattle.start.specs.Hits.{some_below, started_levels, row_hit}
 use Rattle.start.proofs.ringbox.start_ring.Given as goal
 
-abbrev pub invariant-loop-n : goal.invariant-loop-n
-invariant-loop-n l =
-    (l.n ≤ l.n-end) × (length l.lanes ≡ length l.initial.lanes) × (level_at l.lanes ≡ started_levels (level_at l.initial.lanes) (λ j. some_below l.n (λ k. row_hit l.window l.walk l.rows (box_of l.ring) (box_of l.body) l.lane (l.first + k) j)))
-
-abbrev pub decreases-loop-n : goal.decreases-loop-n
-decreases-loop-n l = l.n-end - l.n
+abbrev pub invariant-loop-y : goal.invariant-loop-y
+invariant-loop-y l =
+    (l.y - l.first ≤ l.past - l.first) × (level_at l.lanes ≡ started_levels (level_at l.initial.lanes) (λ j. some_below (l.y - l.first) (λ k. row_hit l.window l.walk l.rows (box_of l.ring) (box_of l.body) l.lane (l.first + k) j)))

@@ -1,9 +1,9 @@
 -- `stretch::start_cells`: of the cells that the loop passed, those that start have started.
-use mathlib.Core.Path.{◌≡◌, refl, ◌∙◌, ap}
+use mathlib.Core.Path.{◌≡◌, ◌∙◌, ap}
 use mathlib.Core.Bool.{Bool, not, ◌&&◌}
 use Prim.Native.Nat.{◌+◌, ◌*◌, ◌≤◌, ◌<◌}
 use native.Mathlib.Omega.{arith}
-use lib.ListN.{length, get_or, length-set}
+use lib.ListN.{length, get_or}
 use lib.IntN.{ℤ, pos}
 use lib.Dec.{eqb}
 use mir.Syntax.{w16}
@@ -21,7 +21,7 @@ use Rattle.start.proofs.stretch.start_cells.Goals as goal
 turn-room : (c : In-loop-n) →
     (c.args.place + c.loop-n.n) * c.args.each + c.args.lane < length c.loop-n.lanes
 turn-room c =
-    rw c.loop-n.invariant.1 (c.requires.lanes_in c.loop-n.n c.loop-n-test.true)
+    rw c.loop-n.auto.lanes (c.requires.lanes_in c.loop-n.n c.loop-n-test.true)
 
 -- so is its walk byte, and its column is in the limits
 turn-walk : (c : In-loop-n) → c.args.place + c.loop-n.n < length c.args.walk.now
@@ -34,7 +34,7 @@ pub loop-n-init : goal.loop-n-init
 unfolding cells_hit
 loop-n-init c =
     let a = c.args in
-    (omega arith, refl, started_none (level_at a.lanes.now) _ (λ j. some_none _))
+    started_none (level_at a.lanes.now) _ (λ j. some_none _)
 
 pub overflow_add-at : goal.overflow_add-at
 overflow_add-at c = omega (arith, turn-walk (goal.at.overflow_add-at c).In-loop-n)
@@ -60,39 +60,21 @@ bounds-walk-place c = omega (arith, turn-walk (goal.at.bounds-walk-place c).In-l
 pub overflow_add-x : goal.overflow_add-x
 overflow_add-x c = omega (arith, turn-column (goal.at.overflow_add-x c).In-loop-n)
 
-pub covers-requires : goal.covers-requires
-covers-requires c = tt
-
-pub starts-requires : goal.starts-requires
-starts-requires c = tt
-
 pub offset_bounds-lanes-at-in-loop-n : goal.offset_bounds-lanes-at-in-loop-n
 offset_bounds-lanes-at-in-loop-n c = omega (arith, turn-room (goal.at.offset_bounds-lanes-at-in-loop-n c).In-loop-n)
 
 pub bounds-lanes-at : goal.bounds-lanes-at
 bounds-lanes-at c = omega (arith, turn-room (goal.at.bounds-lanes-at c).In-loop-n)
 
-pub overflow_step-n : goal.overflow_step-n
-overflow_step-n c = omega arith
-
-pub loop-n-smaller : goal.loop-n-smaller
-loop-n-smaller c = omega arith
-
 pub loop-n-preserved : goal.loop-n-preserved
 unfolding starts_here
 loop-n-preserved c =
     let a = c.args in
-    let n = c.loop-n.n in (
-      omega arith,
-      length-set c.loop-n.lanes _ _ ∙ c.loop-n.invariant.1,
-      rw (to_z-of_z w16 c.started.result (sfits_of c.started.type_inv))
-          (cell_more (level_at a.lanes.now) c.loop-n.lanes c.started.result a.each a.walk.now (box_of a.body) a.lane a.x a.y a.place n (turn-room (goal.at.loop-n-preserved c).In-loop-n) (c.started.ensures ∙ ap (λ (v : ℤ). started_level (level v) c.starts.result) (to_z-of_z w16 (get_or c.loop-n.lanes ((a.place + n) * a.each + a.lane) (pos 0)) (sfits_of c.started-arg-1.given)) ∙ ap (started_level (level_at c.loop-n.lanes ((a.place + n) * a.each + a.lane))) (c.starts.ensures ∙ ap (λ (q : Bool). eqb (get_or a.walk.now (a.place + n) 0) 1 && not q) c.covers.ensures)) c.loop-n.invariant.2),
-    )
-
-pub shape_of-lanes : goal.shape_of-lanes
-shape_of-lanes c = omega arith
+    let n = c.loop-n.n in
+    rw (to_z-of_z w16 c.started.result (sfits_of c.started.type_inv))
+    (cell_more (level_at a.lanes.now) c.loop-n.lanes c.started.result a.each a.walk.now (box_of a.body) a.lane a.x a.y a.place n (turn-room (goal.at.loop-n-preserved c).In-loop-n) (c.started.ensures ∙ ap (λ (v : ℤ). started_level (level v) c.starts.result) (to_z-of_z w16 (get_or c.loop-n.lanes ((a.place + n) * a.each + a.lane) (pos 0)) (sfits_of c.started-arg-1.given)) ∙ ap (started_level (level_at c.loop-n.lanes ((a.place + n) * a.each + a.lane))) (c.starts.ensures ∙ ap (λ (q : Bool). eqb (get_or a.walk.now (a.place + n) 0) 1 && not q) c.covers.ensures)) c.loop-n.invariant)
 
 pub returns : goal.returns
 returns c =
     let e : c.loop-n.n ≡ c.args.count = omega arith in
-    rw e at c.loop-n.invariant.2
+    rw e at c.loop-n.invariant

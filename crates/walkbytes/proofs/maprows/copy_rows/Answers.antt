@@ -1,64 +1,47 @@
--- `maprows::copy_rows`: the rows that the loop passed are the map's; where the next one starts, in the map and in the walk bytes.
+-- `maprows::copy_rows`: the rows that the loop passed are the map's.
 use mathlib.Core.Path.{◌≡◌, refl}
+use Prim.Native.Nat.{ℕ, ◌+◌, ◌*◌, ◌≤◌, ◌<◌}
+use native.Mathlib.Nat.{add-mul, mul-le-mul_right}
 use native.Mathlib.Omega.{arith}
+use lib.ListN.{length}
 use Rattle.window.specs.Fills.{entries, window_rows}
-use Rattle.walkbytes.specs.Copies.{map_rows}
-use Rattle.window.proofs.Fills.{rows_none, rows_more, next_row}
-use Rattle.walkbytes.proofs.Copying.{start_low, copy_row_lem}
+use Rattle.window.proofs.Fills.{rows_none, rows_more}
+use Rattle.window.specs.declared.record.Window.{Window}
+use Rattle.walkbytes.specs.Copies.{Copies, map_rows}
+use Rattle.walkbytes.proofs.Copying.{row_copied}
 use Rattle.walkbytes.proofs.maprows.copy_rows.Goals as goal
 
-pub stride-stride-requires : goal.stride-stride-requires
-stride-stride-requires c = let p = c.requires in omega (arith, p.wide, p.columns)
+in_map : (w : Window) (width cells walk y : ℕ) → Copies w width cells walk → y < w.height → (w.top + y) * width + w.left + w.width ≤ cells
+in_map w width cells walk y f h =
+    let c = f.columns in
+    let r = f.rows in
+    let q : (w.top + y + 1) * width ≤ (w.top + w.height) * width = mul-le-mul_right width (omega arith) in
+    omega (arith, add-mul (w.top + y) 1 width)
 
-pub overflow_mul-from : goal.overflow_mul-from
-overflow_mul-from c = let w = c.args.window in omega (arith, start_low c.requires)
-
-pub overflow_add-from : goal.overflow_add-from
-overflow_add-from c = omega (arith, start_low c.requires)
-
-pub overflow_add-to : goal.overflow_add-to
-overflow_add-to c = let p = c.requires in omega (arith, p.wide, p.columns, c.stride-stride.ensures)
+in_walk : (w : Window) (width cells walk y s now : ℕ) → Copies w width cells walk → y < w.height → s ≡ w.width + 2 → now ≡ walk → (y + 1) * s + 1 + w.width ≤ now
+in_walk w width cells walk y s now f h e p =
+    let r = f.room in
+    let q : (y + 2) * (w.width + 2) ≤ (w.height + 2) * (w.width + 2) = mul-le-mul_right (w.width + 2) (omega arith) in
+    rw e (omega (arith, add-mul (y + 1) 1 (w.width + 2)))
 
 pub loop-y-init : goal.loop-y-init
-loop-y-init c = (omega arith, refl, omega arith, omega arith, rows_none _ _ _ _ _)
-
-pub copy_row-requires : goal.copy_row-requires
-copy_row-requires c =
-    let l = c.loop-y in
-    let r = copy_row_lem c.requires l.y c.loop-y-test.true in
-    let e = c.stride-stride.ensures in
-    let t = rw (← e) at r.to in
-    (omega (arith, r.from), omega arith)
-
-pub overflow_add-from-in-loop-y : goal.overflow_add-from-in-loop-y
-overflow_add-from-in-loop-y c = let l = c.loop-y in omega (arith, copy_row_lem c.requires l.y c.loop-y-test.true)
-
-pub overflow_add-to-in-loop-y : goal.overflow_add-to-in-loop-y
-overflow_add-to-in-loop-y c =
-    let l = c.loop-y in
-    let r = copy_row_lem c.requires l.y c.loop-y-test.true in
-    let e = c.stride-stride.ensures in
-    let t = rw (← e) at r.to in
-    omega arith
-
-pub overflow_step-y : goal.overflow_step-y
-overflow_step-y c = omega arith
-
-pub loop-y-smaller : goal.loop-y-smaller
-loop-y-smaller c = omega arith
+loop-y-init c = rows_none _ _ _ _ _
 
 pub loop-y-preserved : goal.loop-y-preserved
 loop-y-preserved c =
     let l = c.loop-y in
-    let i = l.invariant in
-    let f = c.copy_row.ensures in
-    (omega arith, omega arith, next_row l.from _ l.y _ i.2, next_row l.to _ l.y _ i.3, rows_more _ _ _ _ _ l.y l.to (entries l.walk) _ i.3 i.4 (rw i.2 at f))
-
-pub shape_of-walk : goal.shape_of-walk
-shape_of-walk c = omega arith
+    let a = c.args in
+    let s = c.stride-stride.result in
+    let from : (a.window.top + l.y) * a.width + a.window.left ≡ a.window.top * a.width + a.window.left + l.y * a.width = omega (arith, add-mul a.window.top l.y a.width) in
+    let to : s + 1 + l.y * s ≡ (l.y + 1) * s + 1 = omega (arith, add-mul l.y 1 s) in
+    rows_more _ (s + 1) s a.window.width (map_rows a.window a.width a.cells.now) l.y (s + 1 + l.y * s) (entries l.walk) _ refl l.invariant
+    (row_copied a.window a.width a.cells.now l.walk _ l.y _ _ _ _ _ to from (omega arith) (omega arith)
+    (in_map _ _ _ _ _ c.requires c.loop-y-test.true)
+    (in_walk _ _ _ _ _ s _ c.requires c.loop-y-test.true c.stride-stride.ensures c.loop-y.auto.walk)
+    c.copy_from_slice.ensures.after)
 
 pub returns : goal.returns
-unfolding window_rows map_rows
+unfolding window_rows
 returns c =
     let e : c.loop-y.y ≡ c.args.window.height = omega arith in
-    rw (e, c.stride-stride.ensures) at c.loop-y.invariant.4
+    rw (e, c.stride-stride.ensures) at c.loop-y.invariant

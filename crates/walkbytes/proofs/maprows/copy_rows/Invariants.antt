@@ -1,14 +1,9 @@
--- `maprows::copy_rows`: the rows that the loop passed are the map's; where the next one starts, in the map and in the walk bytes.
+-- `maprows::copy_rows`: the rows that the loop passed are the map's.
 use mathlib.Core.Path.{◌≡◌}
-use Prim.Native.Nat.{◌+◌, ◌*◌, ◌-◌, ◌≤◌}
-use lib.ListN.{length}
+use Prim.Native.Nat.{◌+◌}
 use Rattle.window.specs.Fills.{entries, rows_placed}
+use Rattle.walkbytes.specs.Copies.{map_rows}
 use Rattle.walkbytes.proofs.maprows.copy_rows.Given as goal
 
 abbrev pub invariant-loop-y : goal.invariant-loop-y
-invariant-loop-y l =
-    (l.y ≤ l.y-end) × (length l.walk ≡ length l.initial.walk) × (l.from ≡ l.initial.from + l.y * l.width) × (l.to ≡ l.initial.to + l.y * l.stride)
-    × (entries l.walk ≡ rows_placed (entries l.initial.walk) l.initial.to l.stride l.y l.count (λ y x. entries l.cells (l.initial.from + y * l.width + x)))
-
-abbrev pub decreases-loop-y : goal.decreases-loop-y
-decreases-loop-y l = l.y-end - l.y
+invariant-loop-y l = entries l.walk ≡ rows_placed (entries l.initial.walk) (l.stride + 1) l.stride l.y l.count (map_rows l.window l.width l.cells)
