@@ -5,7 +5,12 @@ use Prim.Native.Nat.{ℕ, zero, suc, ◌+◌, ◌*◌, ◌-◌, ◌≤◌, ◌<�
 use native.Mathlib.Nat.{suc-mul, add-zero, add-suc}
 use native.Mathlib.Numerals.{add-one}
 use native.Mathlib.Omega.{arith}
-use lib.ListN.{length, get_or, length-append}
+use lib.ListN.{length, get_or, take, drop, length-append, length-drop}
+use Rattle.std.specs.Prelude.{nat_eq}
+use Rattle.std.specs.List.{count_by}
+use Rattle.std.proofs.lemmas.List.{get_or-drop}
+use Rattle.std.proofs.lemmas.List.Sums.{count_by_more_yes, count_by_more_no}
+use Rattle.std.proofs.lemmas.Grind.{common_steps}
 use borrow.Author.Tests.{eq-eqb, ne_eqb}
 use Rattle.walkgraph.proofs.Tests.{by_cases}
 use native.Mathlib.Decide.{ℕ_discrete}
@@ -61,13 +66,6 @@ pub open_no : (byte place : ℕ) → ¬ (byte ≡ 1) → open_place byte place �
 unfolding open_place
 open_no byte place n = rw (ne_eqb byte 1 n)
 
--- how many there are does not depend on the place
-pub open_count : (byte place : ℕ) → length (open_place byte place) ≡ length (open_place byte 0)
-open_count byte place =
-    by_cases (ℕ_discrete byte 1)
-    (λ e. rw (open_yes byte place e, open_yes byte 0 e))
-    (λ n. rw (open_no byte place n, open_no byte 0 n))
-
 open_one : (byte place : ℕ) → length (open_place byte place) ≤ 1
 open_one byte place =
     by_cases (ℕ_discrete byte 1) (λ e. rw (open_yes byte place e) (omega arith)) (λ n. rw (open_no byte place n) (omega arith))
@@ -90,10 +88,29 @@ module _ (cells : List ℕ) (from : ℕ) where
   unfolding open_places
   run_most n = omega (arith, in_order_most (λ k. open_place (get_or cells (from + k) 0) (from + k)) 1 n (λ k h. open_one (get_or cells (from + k) 0) (from + k)))
 
-  -- one cell more is counted
-  pub run_counted : (k total one : ℕ) → total ≡ length (open_places cells from k) → one ≡ length (open_place (get_or cells (from + k) 0) 0) → total + one ≡ length (open_places cells from (k + 1))
-  run_counted k total one e f =
-      rw (run_more k, length-append (open_places cells from k) (open_place (get_or cells (from + k) 0) (from + k)), open_count (get_or cells (from + k) 0) (from + k)) (omega arith)
+  -- the bytes of a run, and how many are 1
+  abbrev pub bytes : ℕ → List ℕ
+  bytes n = take (from + n - from) (drop from cells)
+
+  pub run_byte : (n k : ℕ) → k < n → get_or (bytes n) k 0 ≡ get_or cells (from + k) 0
+  run_byte n k h = grind (arith, common_steps)
+
+  counted : (n : ℕ) → from + n ≤ length cells → count_by (λ b. nat_eq b 1) (take n (drop from cells)) ≡ length (open_places cells from n)
+  unfolding open_places in_order
+  counted zero h = refl
+  counted (suc n) h =
+      let at : get_or (drop from cells) n 0 ≡ get_or cells (from + n) 0 = get_or-drop from cells n 0 in
+      let more : length (open_places cells from (suc n)) ≡ length (open_places cells from n) + length (open_place (get_or cells (from + n) 0) (from + n)) =
+      rw (add-one n) at (ap length (run_more n)) ∙ length-append (open_places cells from n) (open_place (get_or cells (from + n) 0) (from + n)) in
+      let before = counted n (omega arith) in
+      let long : n < length (drop from cells) = rw (length-drop from cells) (omega arith) in
+      rw (← add-one n)
+      (by_cases (ℕ_discrete (get_or cells (from + n) 0) 1)
+      (λ e. count_by_more_yes (λ b. nat_eq b 1) (drop from cells) n 0 long (rw (at, e)) ∙ omega (arith, ap length (open_yes _ (from + n) e)))
+      (λ m. count_by_more_no (λ b. nat_eq b 1) (drop from cells) n 0 long (rw at (ne_eqb _ 1 m)) ∙ omega (arith, ap length (open_no _ (from + n) m))))
+
+  pub run_counted : (n : ℕ) → from + n ≤ length cells → count_by (λ b. nat_eq b 1) (bytes n) ≡ length (open_places cells from n)
+  run_counted n h = let e : from + n - from ≡ n = omega arith in rw e (counted n h)
 
   -- one cell more has room where all have
   pub run_room : (k n : ℕ) → k < n → length (open_places cells from k) + length (open_place (get_or cells (from + k) 0) (from + k)) ≤ length (open_places cells from n)

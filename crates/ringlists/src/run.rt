@@ -3,23 +3,15 @@ ghost use Rattle.std.specs.Prelude.{◌≡◌, ◌+◌, ◌≤◌, length};
 ghost use Rattle.ringlists.specs.Places.{open_place, open_places};
 ghost use Rattle.ringlists.specs.Lists.{Puts, RunFits, Listed};
 
-// 1 of a walkable cell, 0 of another, whatever its place.
-fn tally(byte: u8) -> usize
-    ensures { result ≡ length (open_place byte 0) }
-{
-    if byte == 1 { 1 } else { 0 }
-}
-
 // How many of count cells, from index from on, are walkable.
 pub fn count_run(cells: &[u8], from: usize, count: usize) -> usize
     requires { from + count ≤ length cells.now }
     ensures { result ≡ length (open_places cells.now from count) }
 {
-    let mut total: usize = 0;
-    for k in 0..count {
-        total += tally(cells[from + k]);
-    }
-    total
+    cells[from..from + count]
+        .iter()
+        .filter(|byte| **byte == 1)
+        .count()
 }
 
 // Lists a cell's place behind used entries, if it is walkable; answers how many entries are used then.
@@ -40,8 +32,8 @@ pub fn list_run(cells: &[u8], from: usize, count: usize, out: &mut [u32], used: 
     ensures { Listed (open_places cells.now from count) out.old used out.new result }
 {
     let mut end = used;
-    for k in 0..count {
-        end = put(out, end, from + k, cells[from + k]);
+    for (k, &byte) in cells[from..from + count].iter().enumerate() {
+        end = put(out, end, from + k, byte);
     }
     end
 }
