@@ -1,5 +1,4 @@
--- Laws of lanes. Signed and Machine read signed numbers, Steps serves this crate's own functions.
+-- Laws of lanes. Signed and Machine read signed numbers, and Levels says how levels stand to half costs.
 pub mod Signed
 pub mod Machine
-pub mod Steps
 pub mod Levels

@@ -1,6 +1,6 @@
 // One lane: steps that saturate at unreachable, the lesser and the greater of two, and its value at the start.
 // Contracts speak of a lane's level, the lane + 32,768: half cost 0 is level 17,534, unreachable 65,535.
-ghost use Rattle.std.specs.Prelude.{◌≡◌, min, max};
+ghost use Rattle.std.specs.Prelude.{◌≡◌, ℕ, pos, min, max};
 ghost use Rattle.lane.specs.Levels.{level, saturated, started_level};
 
 // Half cost 0.
@@ -10,28 +10,21 @@ pub const ZERO: i16 = -15234;
 pub fn least(x: i16, y: i16) -> i16
     ensures { level result ≡ min (level x) (level y) }
 {
-    if x < y { x } else { y }
+    x.min(y)
 }
 
 // The greater of two lanes.
 pub fn most(x: i16, y: i16) -> i16
     ensures { level result ≡ max (level x) (level y) }
 {
-    if x > y { x } else { y }
+    x.max(y)
 }
 
-// A lane after a straight step.
-pub fn straight(x: i16) -> i16
-    ensures { level result ≡ saturated (level x) 500 }
+// A lane after a step of so many half costs.
+pub fn stepped(lane: i16, step: i16) -> i16
+    ensures { (price : ℕ) → step ≡ pos price → level result ≡ saturated (level lane) price }
 {
-    if x > 32267 { 32767 } else { x + 500 }
-}
-
-// A lane after a diagonal step.
-pub fn diagonal(x: i16) -> i16
-    ensures { level result ≡ saturated (level x) 707 }
-{
-    if x > 32060 { 32767 } else { x + 707 }
+    lane.saturating_add(step)
 }
 
 // A cell's lane at the start: half cost 0 on a walkable ring cell, else as it was.

@@ -1,3 +1,3 @@
--- Laws of one lane, for the callers: where it is, and its mark of change.
+-- Laws of one lane, for the callers: what is read of it, and its mark of change.
 pub mod Places
 pub mod Mark

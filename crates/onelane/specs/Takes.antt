@@ -2,12 +2,12 @@
 use Rattle.std.specs.Prelude.{ℕ, ◌+◌, ◌≤◌, min, max}
 use Rattle.lane.specs.Levels.{out_level, back_level}
 
--- the two strips beside the one in the feeding row are in a buffer of `cells` lanes, and their gates in a table of `table` lanes
-pub record SlantFits (west east west_gate east_gate cells table : ℕ) : Type 0 where
-  pub left : west + 8 ≤ cells
-  pub right : east + 8 ≤ cells
-  pub left_gate : west_gate + 8 ≤ table
-  pub right_gate : east_gate + 8 ≤ table
+-- the first `count` lanes of the two cells beside the one in the feeding row are in a buffer of `cells` lanes, and those of their gates in a table of `table` lanes
+pub record SlantFits (count west east west_gate east_gate cells table : ℕ) : Type 0 where
+  pub left : west + count ≤ cells
+  pub right : east + count ≤ cells
+  pub left_gate : west_gate + count ≤ table
+  pub right_gate : east_gate + count ≤ table
 
 -- ---- lane k: F and G are the levels of the buffer and of the table of gates
 

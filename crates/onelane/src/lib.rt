@@ -8,6 +8,11 @@ ghost use Rattle.onelane.specs.Mark.{kept_mark};
 
 use lane::value;
 
+// What a straight and a diagonal step cost, in half costs.
+const STRAIGHT: i16 = 500;
+
+const DIAGONAL: i16 = 707;
+
 // The lesser of the two lanes beside the one in the feeding row, where their gates are open. A gate is -32,768 (open) or 32,767 (shut).
 fn slant(
     lanes: &[i16],
@@ -18,7 +23,7 @@ fn slant(
     east_gate: usize,
     k: usize,
 ) -> i16
-    requires { SlantFits west east west_gate east_gate (length lanes.now) (length gates.now) × (k < 8) }
+    requires { SlantFits (k + 1) west east west_gate east_gate (length lanes.now) (length gates.now) }
     ensures { level result ≡ slant_at (level_at lanes.now) (level_at gates.now) west east west_gate east_gate k }
 {
     value::least(
@@ -41,25 +46,28 @@ pub fn out(
     east_gate: usize,
     k: usize,
 ) -> i16
-    requires { (i + 8 ≤ length lanes.now) × (over + 8 ≤ length lanes.now)
-        × SlantFits west east west_gate east_gate (length lanes.now) (length gates.now) × (k < 8) }
+    requires { (i + k < length lanes.now) × (over + k < length lanes.now)
+        × SlantFits (k + 1) west east west_gate east_gate (length lanes.now) (length gates.now) }
     ensures { level result ≡ out_at (level_at lanes.now) (level_at gates.now) i over west east (level beside) west_gate east_gate k }
 {
-    let corner = value::diagonal(slant(lanes, gates, west, east, west_gate, east_gate, k));
+    let corner = value::stepped(
+        slant(lanes, gates, west, east, west_gate, east_gate, k),
+        DIAGONAL,
+    );
     let fed = value::least(
         lanes[i + k],
-        value::least(value::straight(lanes[over + k]), corner),
+        value::least(value::stepped(lanes[over + k], STRAIGHT), corner),
     );
-    value::least(fed, value::straight(beside))
+    value::least(fed, value::stepped(beside, STRAIGHT))
 }
 
 // Lane k of a cell on the way back along a row.
 pub fn back(lanes: &[i16], gates: &[i16], i: usize, beside: i16, walk_gate: usize, k: usize) -> i16
-    requires { (i + 8 ≤ length lanes.now) × (walk_gate + 8 ≤ length gates.now) × (k < 8) }
+    requires { (i + k < length lanes.now) × (walk_gate + k < length gates.now) }
     ensures { level result ≡ back_at (level_at lanes.now) (level_at gates.now) i (level beside) walk_gate k }
 {
     value::most(
-        value::least(lanes[i + k], value::straight(beside)),
+        value::least(lanes[i + k], value::stepped(beside, STRAIGHT)),
         gates[walk_gate + k],
     )
 }

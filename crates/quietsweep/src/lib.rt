@@ -14,8 +14,5 @@ pub fn down(number: usize) -> bool
 pub fn ends(changed: bool, count: usize) -> bool
     ensures { result ≡ cond changed false (leb 2 count) }
 {
-    if changed {
-        return false;
-    }
-    2 <= count
+    !changed && 2 <= count
 }

@@ -1,53 +1,40 @@
-// One row, at either lane count, both ways.
+// One row, both ways.
 ghost use Rattle.std.specs.Prelude.{◌*◌, length};
 ghost use Rattle.lane.specs.Levels.{level_at, LaneCount};
-ghost use Rattle.ways.specs.Row.{OutDone, BackDone, RowDone};
-ghost use Rattle.ways.specs.Buffers.{Gates, flag_at, RowFits, BackFits};
+ghost use Rattle.ways.specs.Row.{RowDone};
+ghost use Rattle.ways.specs.Buffers.{Gates, flag_at, RowFits};
 
-// The way out over count cells: first is the index of the first, feeding that of the cell that feeds it.
-fn out(
+// Both ways over count cells: first is the index of the first cell, feeding that of the cell that feeds it. Where the way out changed
+// nothing, a row that is not fresh is closed along itself, and the way back would change nothing either.
+fn both<const LANES: usize>(
     lanes: &mut [i16],
     flags: &[u8],
-    gates: &[i16; 16],
-    lane_count: usize,
+    gates: &[i16; 32],
     first: usize,
     feeding: usize,
     count: usize,
     down: bool,
+    fresh: bool,
 ) -> bool
-    requires { Gates gates.now × LaneCount lane_count × RowFits lane_count first feeding count (length lanes.old) (length flags.now) }
-    ensures { OutDone lane_count (flag_at flags.now) down first feeding count (level_at lanes.old) (level_at lanes.new) result }
+    requires { Gates gates.now × LaneCount LANES × RowFits LANES first feeding count (length lanes.old) (length flags.now) }
+    ensures { RowDone LANES (flag_at flags.now) down (first * LANES) (feeding * LANES) first count
+        (level_at lanes.old) (level_at lanes.new) fresh result }
 {
-    if lane_count == 8 {
-        return eight::out(lanes, flags, gates, first, feeding, count, down);
+    if rowways::out::<LANES>(lanes, flags, gates, first, feeding, count, down) {
+        rowways::back::<LANES>(lanes, flags, gates, first + count, count);
+        return true;
     }
-    sixteen::out(lanes, flags, gates, first, feeding, count, down)
+    if fresh {
+        return rowways::back::<LANES>(lanes, flags, gates, first + count, count);
+    }
+    false
 }
 
-// The way back over count cells: past is the index of the cell past the last.
-fn back(
-    lanes: &mut [i16],
-    flags: &[u8],
-    gates: &[i16; 16],
-    lane_count: usize,
-    past: usize,
-    count: usize,
-) -> bool
-    requires { Gates gates.now × LaneCount lane_count × BackFits lane_count past count (length lanes.old) (length flags.now) }
-    ensures { BackDone lane_count (flag_at flags.now) past count (level_at lanes.old) (level_at lanes.new) result }
-{
-    if lane_count == 8 {
-        return eight::back(lanes, flags, gates, past, count);
-    }
-    sixteen::back(lanes, flags, gates, past, count)
-}
-
-// Both ways. Where the way out changed nothing, a row that is not fresh is closed along itself, and the way back
-// would change nothing either.
+// The same at a lane count of 8 or 16.
 pub fn relax(
     lanes: &mut [i16],
     flags: &[u8],
-    gates: &[i16; 16],
+    gates: &[i16; 32],
     lane_count: usize,
     first: usize,
     feeding: usize,
@@ -59,12 +46,8 @@ pub fn relax(
     ensures { RowDone lane_count (flag_at flags.now) down (first * lane_count) (feeding * lane_count) first count
         (level_at lanes.old) (level_at lanes.new) fresh result }
 {
-    if out(lanes, flags, gates, lane_count, first, feeding, count, down) {
-        back(lanes, flags, gates, lane_count, first + count, count);
-        return true;
+    if lane_count == 8 {
+        return both::<8>(lanes, flags, gates, first, feeding, count, down, fresh);
     }
-    if fresh {
-        return back(lanes, flags, gates, lane_count, first + count, count);
-    }
-    false
+    both::<16>(lanes, flags, gates, first, feeding, count, down, fresh)
 }

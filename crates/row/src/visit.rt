@@ -30,7 +30,7 @@ pub fn visit(
     rows: &[u16],
     versions: &mut [u32],
     pulled: &mut [u32],
-    gates: &[i16; 16],
+    gates: &[i16; 32],
     lane_count: usize,
     stride: usize,
     own: usize,
@@ -43,8 +43,8 @@ pub fn visit(
     ensures { Visited (ground_of lane_count stride flags.now rows.now) down fresh own feed
         (state_of lanes.old versions.old pulled.old changed) (state_of lanes.new versions.new pulled.new result) }
 {
-    let a = rows[2 * own - 2] as usize;
-    let b = rows[2 * own - 1] as usize;
+    let a = usize::from(rows[2 * own - 2]);
+    let b = usize::from(rows[2 * own - 1]);
     if b <= a {
         return changed;
     }
@@ -64,7 +64,7 @@ pub fn visit(
         down,
         fresh,
     ) {
-        versions[own] = std::num::wrapping_add_u32(versions[own], 1);
+        versions[own] = versions[own].wrapping_add(1);
         return true;
     }
     changed

@@ -14,14 +14,8 @@ pub fn enough(
     requires { height ≤ 1024 }
     ensures { result ≡ (leb (2 * height) rows && leb (height + 2) versions && leb (height + 2) pulled_down && leb (height + 2) pulled_up) }
 {
-    if rows < 2 * height {
-        return false;
-    }
-    if versions < height + 2 {
-        return false;
-    }
-    if pulled_down < height + 2 {
-        return false;
-    }
-    height + 2 <= pulled_up
+    2 * height <= rows
+        && height + 2 <= versions
+        && height + 2 <= pulled_down
+        && height + 2 <= pulled_up
 }

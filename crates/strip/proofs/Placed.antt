@@ -22,22 +22,3 @@ levels_paste d v at count new fits long h =
     (λ k b. ap level (paste_in (pos 0) d v at count fits long k b) ∙ h.each k b ∙ sym (placed_in (level_at d) at count new k b))
     (λ b. ap level (paste_above (pos 0) d v at count fits long i b) ∙ sym (placed_above (level_at d) at count new i b))
     t
-
--- two neighbouring places are one: sixteen lanes are two strips of eight
-pub placed_next : (levels : ℕ → ℕ) (at m n : ℕ) (new : ℕ → ℕ) → placed (placed levels at m new) (at + m) n (λ k. new (m + k)) ≡ placed levels at (m + n) new
-placed_next levels at m n new =
-    λ t i.
-    by_place (λ i. placed (placed levels at m new) (at + m) n (λ k. new (m + k)) i ≡ placed levels at (m + n) new i) at (m + n) i
-    (λ b. placed_below (placed levels at m new) (at + m) n _ i (omega arith) ∙ placed_below levels at m new i b ∙ sym (placed_below levels at (m + n) new i b))
-    (λ k b. within k b)
-    (λ b. placed_above (placed levels at m new) (at + m) n _ i (omega arith) ∙ placed_above levels at m new i (omega arith) ∙ sym (placed_above levels at (m + n) new i b))
-    t
-  where
-    within : (k : ℕ) → k < m + n → placed (placed levels at m new) (at + m) n (λ k. new (m + k)) (at + k) ≡ placed levels at (m + n) new (at + k)
-    within k b =
-        elim (dec_lt k m) [
-          | yes c ↦ placed_below (placed levels at m new) (at + m) n _ (at + k) (omega arith) ∙ placed_in levels at m new k c ∙ sym (placed_in levels at (m + n) new k b)
-          | no nc ↦ (let e : at + m + (k - m) ≡ at + k = omega arith in
-              let q : m + (k - m) ≡ k = omega arith in
-              (rw (e, q) at (placed_in (placed levels at m new) (at + m) n (λ k. new (m + k)) (k - m) (omega arith))) ∙ sym (placed_in levels at (m + n) new k b))
-        ]

@@ -7,7 +7,6 @@ ghost use Rattle.window.specs.Fills.{entries};
 ghost use Rattle.versions.specs.Versions.{VersionBuffers, BeforeSweeps, AfterSweeps};
 
 use cells::boxes::CellBox;
-use cells::edge;
 use window::record::Window;
 
 // Writes one number to count entries from an index on.
@@ -15,17 +14,18 @@ fn set(numbers: &mut [u32], from: usize, count: usize, number: u32)
     requires { from + count ≤ length numbers.old }
     ensures { entries numbers.new ≡ placed (entries numbers.old) from count (λ (k : ℕ). number) }
 {
-    for k in 0..count {
-        numbers[from + k] = number;
-    }
+    numbers[from..from + count].fill(number);
 }
 
 // The rows of the window above the sources.
 pub fn above(window: Window, sources: CellBox) -> usize
     ensures { result ≡ min (sources.top - window.top) window.height }
 {
-    edge::least(edge::past(window.top, sources.top), window.height)
+    sources.top.saturating_sub(window.top).min(window.height)
 }
+
+// A version that no row has: nothing was pulled yet.
+const NEVER: u32 = u32::MAX;
 
 // Before the first sweep versions are 0, and no row has pulled yet. But the rows above the sources, quiet in number,
 // cannot change in the first sweep, and count as having pulled version 0.
@@ -42,8 +42,8 @@ pub fn unpulled(
 {
     set(versions, 0, height + 2, 0);
     set(pulled_down, 0, quiet + 1, 0);
-    set(pulled_down, quiet + 1, height + 1 - quiet, 4294967295);
-    set(pulled_up, 0, height + 2, 4294967295);
+    set(pulled_down, quiet + 1, height + 1 - quiet, NEVER);
+    set(pulled_up, 0, height + 2, NEVER);
 }
 
 // After the last sweep all of them are 0.

@@ -1,4 +1,4 @@
--- The two ways along a row, as their loops go: what holds after n cells, and one cell more. A cell is one strip or two; all else is said once over the lane count.
+-- The two ways along a row, as their loops go: what holds after n cells, and one cell more. All of it over the lane count.
 use mathlib.Core.Path.{◌≡◌, refl, sym, ap, ◌∙◌}
 use mathlib.Core.Bool.{Bool}
 use mathlib.Core.List.{List}
@@ -17,7 +17,7 @@ use Rattle.lane.specs.Levels.{level_at}
 use Rattle.strip.specs.Strips.{lanes_at, HasLevels}
 use Rattle.strip.specs.Marks.{kept_at, HasMarks}
 use Rattle.strip.proofs.Strips.{levels_at}
-use Rattle.strip.proofs.Placed.{levels_paste, placed_next}
+use Rattle.strip.proofs.Placed.{levels_paste}
 use Rattle.ways.specs.Row.{out_levels, out_cell, out_row, back_levels, back_cell, back_row}
 use Rattle.ways.specs.Buffers.{CellFits, RowFits, BackFits}
 use Rattle.ways.proofs.Marked.{Marked, marked_next}
@@ -31,9 +31,9 @@ module _ (lanes : ℕ) (flag : ℕ → ℕ) (down : Bool) (first feeding : ℕ) 
     pub own : i ≡ first * lanes + n * lanes
     pub fed : o ≡ feeding * lanes + n * lanes
     pub levels : G ≡ out_row lanes flag down F (first * lanes) (feeding * lanes) first n
-    pub marked : Marked marks F G
+    pub marked : Marked lanes marks F G
 
-  pub out_start : {marks : List ℤ} → Marked marks F F → OutTo 0 (first * lanes) (feeding * lanes) F marks
+  pub out_start : {marks : List ℤ} → Marked lanes marks F F → OutTo 0 (first * lanes) (feeding * lanes) F marks
   unfolding out_row
   out_start m = record { own = omega (arith, zero-mul lanes); fed = omega (arith, zero-mul lanes); levels = refl; marked = m }
 
@@ -42,7 +42,7 @@ module _ (lanes : ℕ) (flag : ℕ → ℕ) (down : Bool) (first feeding : ℕ) 
   out_ahead {n} t j h = ap (λ (f : ℕ → ℕ). f j) t.levels ∙ out_above lanes flag down F (first * lanes) (feeding * lanes) first n j (omega (arith, t.own))
 
   -- one cell more
-  pub out_next : {n i o : ℕ} {G H : ℕ → ℕ} {marks kept : List ℤ} → OutTo n i o G marks → H ≡ out_cell lanes flag down G i o (first + n) → Marked kept F (out_cell lanes flag down G i o (first + n)) → OutTo (n + 1) (i + lanes) (o + lanes) H kept
+  pub out_next : {n i o : ℕ} {G H : ℕ → ℕ} {marks kept : List ℤ} → OutTo n i o G marks → H ≡ out_cell lanes flag down G i o (first + n) → Marked lanes kept F (out_cell lanes flag down G i o (first + n)) → OutTo (n + 1) (i + lanes) (o + lanes) H kept
   unfolding out_row
   out_next {n} t e m =
       let s : (n + 1) * lanes ≡ n * lanes + lanes = rw (add-one n, suc-mul n lanes) in
@@ -61,9 +61,9 @@ module _ (lanes : ℕ) (flag : ℕ → ℕ) (past : ℕ) (F : ℕ → ℕ) where
     pub own : i ≡ past * lanes - n * lanes
     pub place : f ≡ past - n
     pub levels : G ≡ back_row lanes flag F (past * lanes) past n
-    pub marked : Marked marks F G
+    pub marked : Marked lanes marks F G
 
-  pub back_start : {marks : List ℤ} → Marked marks F F → BackTo 0 (past * lanes) past F marks
+  pub back_start : {marks : List ℤ} → Marked lanes marks F F → BackTo 0 (past * lanes) past F marks
   unfolding back_row
   back_start m = record { own = omega (arith, zero-mul lanes); place = omega arith; levels = refl; marked = m }
 
@@ -73,7 +73,7 @@ module _ (lanes : ℕ) (flag : ℕ → ℕ) (past : ℕ) (F : ℕ → ℕ) where
       let q : 0 + past * lanes ≡ past * lanes = omega arith in
       ap (λ (g : ℕ → ℕ). g j) t.levels ∙ (rw (q, p) at (back_below lanes flag F 0 0 past n j l (omega (arith, t.own))))
 
-  pub back_next : {n i f : ℕ} {G H : ℕ → ℕ} {marks kept : List ℤ} → BackTo n i f G marks → H ≡ back_cell lanes flag G (i - lanes) (f - 1) → Marked kept F (back_cell lanes flag G (i - lanes) (f - 1)) → BackTo (n + 1) (i - lanes) (f - 1) H kept
+  pub back_next : {n i f : ℕ} {G H : ℕ → ℕ} {marks kept : List ℤ} → BackTo n i f G marks → H ≡ back_cell lanes flag G (i - lanes) (f - 1) → Marked lanes kept F (back_cell lanes flag G (i - lanes) (f - 1)) → BackTo (n + 1) (i - lanes) (f - 1) H kept
   unfolding back_row
   back_next {n} {i} {f} t e m =
       let s = suc-mul n lanes in
@@ -132,31 +132,6 @@ back_place {lanes} {past} {count} {n} fits l same e f =
     let flags = fits.flags in
     record { low = omega arith; some = omega arith; here = omega arith; own = omega arith; flag = omega arith; before = omega arith }
 
--- at sixteen lanes, the two strips of a cell
-pub record Halves (i cells : ℕ) : Type 0 where
-  pub first : i + 8 ≤ cells
-  pub second : i + 8 + 8 ≤ cells
-  pub half : Fits w64 (i + 8)
-
-pub halves : (i cells : ℕ) → i + 16 ≤ cells → Fits w64 cells → Halves i cells
-halves i cells h f = record { first = omega arith; second = omega arith; half = omega arith }
-
-pub record FedHalves (i o cells : ℕ) : Type 0 where
-  pub own : Halves i cells
-  pub first : CellFits 16 i o cells
-  pub second : CellFits 16 (i + 8) (o + 8) cells
-  pub half : Fits w64 (o + 8)
-
-pub fed_halves : {first n i o cells bytes : ℕ} → OutPlace 16 first n i o cells bytes → Fits w64 cells → FedHalves i o cells
-fed_halves {first} {n} {i} {o} {cells} p f =
-    let h = halves i cells p.own f in
-    record {
-      own = h;
-      first = record { own = h.first; low = p.low; fed = omega (arith, p.fed) };
-      second = record { own = h.second; low = omega (arith, p.low); fed = omega (arith, p.fed) };
-      half = omega (arith, p.fed, f);
-    }
-
 -- one cell more of `count`
 pub cell_next : (n count : ℕ) → n < count → n + 1 ≤ count
 cell_next n count l = omega arith
@@ -167,37 +142,18 @@ cell_fits n count l f = omega arith
 pub cell_nearer : (n count : ℕ) → n < count → count - (n + 1) < count - n
 cell_nearer n count l = omega arith
 
--- ---- a cell of one strip, or of two: `cell` are the levels that it takes
+-- ---- a cell: `cell` are the levels that it takes
 
-module _ (d : List ℤ) (i : ℕ) (cell : ℕ → ℕ) (new : List ℤ) (news : HasLevels 8 new cell) where
-  -- the buffer after the stores
-  pub one_stored : (e : List ℤ) → e ≡ paste d i new 8 → i + 8 ≤ length d → length new ≡ 8 → level_at e ≡ placed (level_at d) i 8 cell
-  one_stored e p fits l = ap level_at p ∙ levels_paste d new i 8 cell fits (omega arith) news
-
-  pub two_stored : (e e2 new2 : List ℤ) → e ≡ paste d i new 8 → e2 ≡ paste e (i + 8) new2 8 → i + 16 ≤ length d → length new ≡ 8 → length new2 ≡ 8 →
-      HasLevels 8 new2 (λ k. cell (8 + k)) → level_at e2 ≡ placed (level_at d) i 16 cell
-  two_stored e e2 new2 p q fits l l2 news2 =
-      let same : length e ≡ length d = ap length p ∙ length-paste d i new 8 (omega arith) (omega arith) in
-      ap level_at q ∙ levels_paste e new2 (i + 8) 8 (λ k. cell (8 + k)) (omega arith) (omega arith) news2
-      ∙ rw (one_stored e p (omega arith) l, placed_next (level_at d) i 8 8 cell)
+module _ (lanes : ℕ) (d : List ℤ) (i : ℕ) (cell : ℕ → ℕ) (new : List ℤ) (news : HasLevels lanes new cell) where
+  -- the buffer after the store
+  pub cell_stored : (e : List ℤ) → e ≡ paste d i new lanes → i + lanes ≤ length d → length new ≡ lanes → level_at e ≡ placed (level_at d) i lanes cell
+  cell_stored e p fits l = ap level_at p ∙ levels_paste d new i lanes cell fits (omega arith) news
 
   -- the marks
-  module _ (F : ℕ → ℕ) (marks : List ℤ) (marked : Marked marks F (level_at d)) where
-    pub one_marked : (kept : List ℤ) → ((k : ℕ) → k < 8 → level_at d (i + k) ≡ F (i + k)) → HasMarks 8 kept (kept_at marks (lanes_at d i 8) new) → Marked kept F (placed (level_at d) i 8 cell)
-    one_marked kept same keeps =
-        marked_next marks (lanes_at d i 8) new kept F (level_at d) i cell (record { each = λ k h. (levels_at d i 8).each k h ∙ same k h }) same news keeps marked
-
-    -- the second strip is put into the buffer e that has the first
-    pub two_marked : (e new2 still kept : List ℤ) → e ≡ paste d i new 8 → i + 8 ≤ length d → length new ≡ 8 → HasLevels 8 new2 (λ k. cell (8 + k)) → ((k : ℕ) → k < 16 → level_at d (i + k) ≡ F (i + k)) →
-        HasMarks 8 still (kept_at marks (lanes_at d i 8) new) → HasMarks 8 kept (kept_at still (lanes_at e (i + 8) 8) new2) → Marked kept F (placed (level_at d) i 16 cell)
-    two_marked e new2 still kept p fits l news2 same keeps keeps2 =
-        let after : (k : ℕ) → k < 8 → placed (level_at d) i 8 cell (i + 8 + k) ≡ F (i + 8 + k) =
-        λ k h. (let q : i + (8 + k) ≡ i + 8 + k = omega arith in placed_above (level_at d) i 8 cell (i + 8 + k) (omega arith) ∙ (rw q at (same (8 + k) (omega arith)))) in
-        rw (← placed_next (level_at d) i 8 8 cell)
-        (marked_next still (lanes_at e (i + 8) 8) new2 kept F (placed (level_at d) i 8 cell) (i + 8) (λ k. cell (8 + k))
-        (record { each = λ k h. (levels_at e (i + 8) 8).each k h ∙ ap (λ (f : ℕ → ℕ). f (i + 8 + k)) (one_stored e p fits l) ∙ after k h })
-        after news2 keeps2
-        (one_marked still (λ k h. same k (omega arith)) keeps))
+  pub cell_marked : (F : ℕ → ℕ) (marks : List ℤ) → Marked lanes marks F (level_at d) → (kept : List ℤ) → ((k : ℕ) → k < lanes → level_at d (i + k) ≡ F (i + k))
+      → HasMarks lanes kept (kept_at marks (lanes_at d i lanes) new) → Marked lanes kept F (placed (level_at d) i lanes cell)
+  cell_marked F marks marked kept same keeps =
+      marked_next lanes marks (lanes_at d i lanes) new kept F (level_at d) i cell (record { each = λ k h. (levels_at d i lanes).each k h ∙ same k h }) same news keeps marked
 
 -- indices of a cell and of the one before it
 pub onward : (i k : ℕ) → i ≤ i + k
@@ -209,29 +165,6 @@ returned i lanes = omega arith
 pub below : (i lanes j k : ℕ) → k < lanes → i + lanes ≡ j → i + k < j
 below i lanes j k h e = omega arith
 
--- a lane of either strip is one of the sixteen
-pub within_two : (k : ℕ) → k < 8 → k < 16
-within_two k h = omega arith
-
-pub second_within : (k : ℕ) → k < 8 → 8 + k < 16
-second_within k h = omega arith
-
 -- what is carried on is what was stored
 pub carried : (G H cell : ℕ → ℕ) (i lanes p k : ℕ) → H ≡ placed G i lanes cell → p ≡ i → k < lanes → cell k ≡ H (p + k)
 carried G H cell i lanes p k e q h = rw (e, q) (sym (placed_in G i lanes cell k h))
-
--- the second strip, in terms of the cell
-pub second_out : (down : Bool) (flag : ℕ) (F : ℕ → ℕ) (i o : ℕ) (beside : ℕ → ℕ) → 16 ≤ o → (k : ℕ) → beside k ≡ F (i - 16 + (8 + k)) →
-    out_levels 16 down flag F (i + 8) (o + 8) beside k ≡ out_levels 16 down flag F i o (λ k. F (i - 16 + k)) (8 + k)
-second_out down flag F i o beside low k e =
-    let a : i + 8 + k ≡ i + (8 + k) = omega arith in
-    let b : o + 8 + k ≡ o + (8 + k) = omega arith in
-    let c : o + 8 - 16 + k ≡ o - 16 + (8 + k) = omega arith in
-    let d : o + 8 + 16 + k ≡ o + 16 + (8 + k) = omega arith in
-    rw (a, b, c, d, e)
-
-pub second_back : (flag : ℕ) (F : ℕ → ℕ) (i : ℕ) (beside : ℕ → ℕ) (k : ℕ) → beside k ≡ F (i + 16 + (8 + k)) →
-    back_levels flag F (i + 8) beside k ≡ back_levels flag F i (λ k. F (i + 16 + k)) (8 + k)
-second_back flag F i beside k e =
-    let a : i + 8 + k ≡ i + (8 + k) = omega arith in
-    rw (a, e)

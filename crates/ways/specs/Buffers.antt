@@ -2,11 +2,11 @@
 use Rattle.std.specs.Prelude.{◌≡◌, List, ℕ, ◌+◌, ◌*◌, ◌≤◌, ◌<◌, ℤ, get_or, length}
 use Rattle.lane.specs.Levels.{level_at}
 
--- the table of gates: eight shut ones, then eight that let levels through
+-- the table of gates: sixteen shut ones, then sixteen that let levels through
 pub record Gates (table : List ℤ) : Type 0 where
-  pub long : length table ≡ 16
-  pub shut : (k : ℕ) → k < 8 → level_at table k ≡ 65535
-  pub through : (k : ℕ) → k < 8 → level_at table (8 + k) ≡ 0
+  pub long : length table ≡ 32
+  pub shut : (k : ℕ) → k < 16 → level_at table k ≡ 65535
+  pub through : (k : ℕ) → k < 16 → level_at table (16 + k) ≡ 0
 
 -- the flag byte of a cell
 abbrev pub flag_at : List ℕ → ℕ → ℕ
@@ -14,11 +14,11 @@ flag_at flags i = get_or flags i 0
 
 -- ---- lengths: `cells` and `bytes` are those of the lanes and of the flags
 
--- eight lanes at index i, fed from index o, and the lanes beside those
+-- the lanes of the cell at index i, of the one at index o that feeds it, and of those beside that
 pub record CellFits (lanes i o cells : ℕ) : Type 0 where
-  pub own : i + 8 ≤ cells
+  pub own : i + lanes ≤ cells
   pub low : lanes ≤ o
-  pub fed : o + lanes + 8 ≤ cells
+  pub fed : o + lanes + lanes ≤ cells
 
 -- `count` cells from `first` on and those beside them, and the same from `feeding` on
 pub record RowFits (lanes first feeding count cells bytes : ℕ) : Type 0 where

@@ -1,16 +1,15 @@
-// Gates: a strip of 32,767 shuts, a strip of -32,768 lets lanes through.
-ghost use Rattle.std.specs.Prelude.{◌≡◌, ◌*◌, ◌/◌, ◌%◌};
+// Gates: 32,767 shuts, -32,768 lets a lane through.
+ghost use Rattle.std.specs.Prelude.{◌≡◌, ◌*◌, ◌%◌};
 ghost use Rattle.ways.specs.Row as spec;
 ghost use Rattle.ways.specs.Buffers.{Gates};
 
-// Eight shut gates, then eight open ones.
-pub fn gates() -> [i16; 16]
+// Sixteen shut gates, then sixteen open ones: one for each lane that a cell can have.
+pub fn gates() -> [i16; 32]
     ensures { Gates result }
 {
-    [
-        32767, 32767, 32767, 32767, 32767, 32767, 32767, 32767, -32768, -32768, -32768, -32768,
-        -32768, -32768, -32768, -32768,
-    ]
+    let mut table = [32767i16; 32];
+    table[16..].fill(-32768);
+    table
 }
 
 // The flags of a sweep's two diagonals, moved down to the bits 2 and 4.
@@ -20,23 +19,9 @@ pub fn turned(flag: u8, down: bool) -> u8
     if down { flag } else { flag / 4 }
 }
 
-// Where the gate of walking starts in the table, by the flag byte.
-pub fn walk_gate(flag: u8) -> usize
-    ensures { result ≡ flag % 2 * 8 }
+// Where the gates of the lowest bit start in the table.
+pub fn place(bits: u8) -> usize
+    ensures { result ≡ bits % 2 * 16 }
 {
-    flag as usize % 2 * 8
-}
-
-// Where that of the diagonal from the left starts.
-pub fn west_gate(flag: u8) -> usize
-    ensures { result ≡ flag / 2 % 2 * 8 }
-{
-    flag as usize / 2 % 2 * 8
-}
-
-// Where that of the diagonal from the right starts.
-pub fn east_gate(flag: u8) -> usize
-    ensures { result ≡ flag / 4 % 2 * 8 }
-{
-    flag as usize / 4 % 2 * 8
+    usize::from(bits % 2) * 16
 }

@@ -3,40 +3,18 @@ use mathlib.Core.Path.{refl, ap, ◌∙◌}
 use Prim.Native.Nat.{ℕ}
 use native.Mathlib.Omega.{arith}
 use borrow.Author.Rules.{sfits_of}
+use Rattle.std.proofs.lemmas.List.{length-replicate}
 use Rattle.lane.specs.Levels.{level_at}
 use Rattle.onelane.specs.Takes.{out_at}
 use Rattle.onelane.proofs.Places.{lane_read}
-use Rattle.strip.proofs.Strips.{filled_none, filled_more, filled_all, lane_bytes, lane_next, lane_nearer}
+use Rattle.strip.proofs.Strips.{filled_none, filled_more, filled_all}
 use Rattle.strip.proofs.out.Goals as goal
 
 pub loop-k-init : goal.loop-k-init
-loop-k-init c = filled_none _ _ refl
-
-pub offset_bounds-beside-k : goal.offset_bounds-beside-k
-offset_bounds-beside-k c = lane_bytes _ c.loop-k-test.true
-
-pub bounds-beside-k : goal.bounds-beside-k
-bounds-beside-k c = c.loop-k-test.true
-
-pub out-requires : goal.out-requires
-out-requires c =
-    let p = c.requires in
-    (p.0, p.1, p.2, c.loop-k-test.true)
-
-pub offset_bounds-strip-k : goal.offset_bounds-strip-k
-offset_bounds-strip-k c = lane_bytes _ c.loop-k-test.true
-
-pub bounds-strip-k : goal.bounds-strip-k
-bounds-strip-k c = c.loop-k-test.true
-
-pub overflow_step-k : goal.overflow_step-k
-overflow_step-k c = lane_next _ c.loop-k-test.true
-
-pub loop-k-smaller : goal.loop-k-smaller
-loop-k-smaller c = lane_nearer _ c.loop-k-test.true
+loop-k-init g c = filled_none _ _ _ (length-replicate _ _)
 
 pub loop-k-preserved : goal.loop-k-preserved
-loop-k-preserved c =
+loop-k-preserved g c =
     let a = c.args in
     let k = c.loop-k.k in
     filled_more c.out.result (sfits_of c.out.type_inv) c.loop-k-test.true
@@ -44,4 +22,4 @@ loop-k-preserved c =
     c.loop-k.invariant
 
 pub returns : goal.returns
-returns c = filled_all c.loop-k.invariant (omega arith)
+returns g c = filled_all c.loop-k.invariant (omega arith)

@@ -1,12 +1,8 @@
 -- `strip::out`: the first k lanes have the levels of the way out.
-use Prim.Native.Nat.{◌-◌}
 use Rattle.lane.specs.Levels.{level_at}
 use Rattle.onelane.specs.Takes.{out_at}
 use Rattle.strip.proofs.Strips.{Filled}
 use Rattle.strip.proofs.out.Given as goal
 
 abbrev pub invariant-loop-k : goal.invariant-loop-k
-invariant-loop-k l = Filled (λ j. out_at (level_at l.lanes) (level_at l.gates) l.i l.over l.west l.east (level_at l.beside j) l.west_gate l.east_gate j) l.k l.strip
-
-abbrev pub decreases-loop-k : goal.decreases-loop-k
-decreases-loop-k l = 8 - l.k
+invariant-loop-k g l = Filled g.row.LANES (λ j. out_at (level_at l.lanes) (level_at l.gates) l.i l.over l.west l.east (level_at l.beside j) l.west_gate l.east_gate j) l.k l.strip

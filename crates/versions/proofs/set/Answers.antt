@@ -1,37 +1,18 @@
--- `versions::set`: the entries that the loop passed hold the number, and the others stay.
-use mathlib.Core.Path.{◌≡◌, refl}
-use Prim.Native.Nat.{◌+◌}
+-- `versions::set`: the part that was filled, put back.
+use mathlib.Core.Path.{◌≡◌, refl, sym, ap, ◌∙◌}
+use Prim.Native.Nat.{ℕ, ◌+◌, ◌-◌}
 use native.Mathlib.Omega.{arith}
-use lib.ListN.{length-set}
-use Rattle.window.proofs.Fills.{placed_none, placed_store}
+use lib.ListN.{length, get_or, replicate, drop, length-drop}
+use lib.Seq.{length-take-le}
+use borrow.Author.Rules.{rules}
+use Rattle.std.proofs.lemmas.List.{length-replicate, get_or-replicate}
+use Rattle.window.proofs.Fills.{part_back}
 use Rattle.versions.proofs.set.Goals as goal
 
-pub loop-k-init : goal.loop-k-init
-loop-k-init c = (omega arith, refl, placed_none _ _ _ _ (omega arith))
-
-pub overflow_add-numbers : goal.overflow_add-numbers
-overflow_add-numbers c = omega arith
-
-pub offset_bounds-numbers-from : goal.offset_bounds-numbers-from
-offset_bounds-numbers-from c = omega arith
-
-pub bounds-numbers-from : goal.bounds-numbers-from
-bounds-numbers-from c = omega arith
-
-pub overflow_step-k : goal.overflow_step-k
-overflow_step-k c = omega arith
-
-pub loop-k-smaller : goal.loop-k-smaller
-loop-k-smaller c = omega arith
-
-pub loop-k-preserved : goal.loop-k-preserved
-loop-k-preserved c =
-    let l = c.loop-k in
-    let a = c.args in
-    (omega arith, simp length-set (omega arith), placed_store _ a.from (λ i. a.number) l.k (a.from + l.k) a.number l.numbers (omega arith) (omega arith) refl l.invariant.2)
-
-pub shape_of-numbers : goal.shape_of-numbers
-shape_of-numbers c = omega arith
-
 pub returns : goal.returns
-returns c = let e : c.loop-k.k ≡ c.args.count = omega arith in rw e at c.loop-k.invariant.2
+returns c =
+    let a = c.args in
+    let e : a.from + a.count - a.from ≡ a.count = omega arith in
+    let long : length c.fill.new.self ≡ a.count = c.fill.ensures.len ∙ length-take-le _ (drop a.from a.numbers.now) (simp length-drop (omega arith)) ∙ e in
+    let part : c.fill.new.self ≡ replicate (length c.fill.new.self) a.number = rw c.fill.ensures.len (c.fill.ensures.after (λ y h. h)) in
+    part_back a.numbers.now c.fill.new.self a.from _ a.count (λ i. a.number) e c.requires long (λ i h. ap (λ n. get_or n i 0) part ∙ get_or-replicate _ i a.number 0 (omega arith))

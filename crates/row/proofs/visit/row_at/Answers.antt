@@ -1,8 +1,0 @@
--- `visit::row_at`: by the direction.
-use Rattle.row.proofs.visit.row_at.Goals as goal
-
-pub returns-then-down : goal.returns-then-down
-returns-then-down c = rw c.if-down.true
-
-pub returns-else-down : goal.returns-else-down
-returns-else-down c = rw c.if-down.false
