@@ -1,6 +1,6 @@
 -- The greatest byte of a grid, and the test of a grid as the code makes it.
-use mathlib.Core.Path.{◌≡◌, sym, ◌∙◌}
-use mathlib.Core.Bool.{Bool, true, false, not, ◌&&◌, and_assoc, not-not}
+use mathlib.Core.Path.{◌≡◌, sym}
+use mathlib.Core.Bool.{not, ◌&&◌, and_assoc, not-not}
 use mathlib.Core.List.{List, [], ◌∷◌}
 use Prim.Native.Nat.{ℕ, zero, suc, ◌*◌, ◌≤◌, max}
 use native.Mathlib.Omega.{arith}
@@ -38,13 +38,6 @@ fold_from high (byte ∷ cells) = omega (arith, fold_from (max high byte) cells)
 
 pub greatest_by_fold : (cells : List ℕ) → fold max 0 cells ≡ greatest cells
 greatest_by_fold cells = omega (arith, fold_from 0 cells)
-
--- ---- `a && b` as code makes it: the second test is made where the first holds
-pub next_test : {first result a b : Bool} → first ≡ a → first ≡ true → result ≡ b → result ≡ (a && b)
-next_test first_is holds e = rw (sym first_is ∙ holds) e
-
-pub test_failed : {first result a : Bool} (b : Bool) → first ≡ a → first ≡ false → result ≡ first → result ≡ (a && b)
-test_failed b first_is fails e = rw (sym first_is ∙ fails) (e ∙ fails)
 
 -- the four tests of a grid, in the code's order
 pub good_grid : (w h : ℕ) (cells : List ℕ) → not (bad_grid w h cells) ≡ (in_limits w && in_limits h && eqb (length cells) (w * h) && leb (greatest cells) 1)

@@ -22,6 +22,7 @@ fn size_ok(size: u32) -> bool
 }
 
 // Sizes in their limits, as many bytes as cells, no byte above 1.
+#[tactic(auto, using(crate::proofs::Grids::good_grid))]
 pub fn grid_ok(width: u32, height: u32, cells: &[u8]) -> bool
     ensures { result ≡ not (bad_grid width height cells.now) }
 {

@@ -19,6 +19,7 @@ pub fn fours_ok(most: usize, numbers: &[i32]) -> bool
 }
 
 // Cells from low to high, ends included: not empty, and on a map of size columns or rows.
+#[tactic(auto, using(crate::proofs::Spans::good_span))]
 pub fn within(size: u32, low: i32, high: i32) -> bool
     ensures { result ≡ not (bad_span size low high) }
 {
