@@ -21,6 +21,7 @@ pub struct Ring {
 }
 
 // Whether a span of pixels is one of a resource, along an axis of size cells.
+#[tactic(auto, unfolding(walkgraph::specs::Refusals::bad_side))]
 fn spans(low: i32, high: i32, size: usize) -> bool
     requires { size ≤ 1024 }
     ensures { result ≡ not (bad_side size low high) }
@@ -29,6 +30,7 @@ fn spans(low: i32, high: i32, size: usize) -> bool
 }
 
 // The ring of a rectangle of pixels, if it is accepted as a resource.
+#[tactic(auto, using(crate::proofs::Sides::side), unfolding(crate::specs::Rings::RingOf, walkgraph::specs::Refusals::bad_resource, walkgraph::specs::Ring::ring_box, walkgraph::specs::Ring::body))]
 pub fn ring_of(rectangle: Corners, width: usize, height: usize) -> Option<Ring>
     requires { (width ≤ 1024) × (height ≤ 1024) }
     ensures { RingOf width height (corners_of rectangle) result }
@@ -77,6 +79,7 @@ pub fn accepted(resources: &[i32], width: usize, height: usize) -> usize
 }
 
 // The box around a box and the ring box, if there is one.
+#[tactic(auto, unfolding(crate::specs::Rings::around, walkgraph::specs::Window::hull))]
 fn around(boxed: CellBox, ring: Option<Ring>) -> CellBox
     ensures { box_of result ≡ around (box_of boxed) ring }
 {
