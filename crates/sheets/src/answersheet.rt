@@ -28,8 +28,12 @@ pub fn answered(
             let mut answers: [u16; 8] = [0; 8];
             let fields = groups::groups(width, height, cells, resources, &mut answers);
             let boxed = targetbox::cells_of(targets);
-            let count = resources.len() / 4;
-            sheettext::sheet(page, window, sweeps, boxed, lanes, count, fields, &answers)
+            let field = Field {
+                window,
+                lanes,
+                resources: resources.len() / 4,
+            };
+            sheettext::sheet(page, field, sweeps, boxed, fields, &answers)
         }
     }
 }
