@@ -40,7 +40,7 @@ first_of : (n : ℕ) → get_or (digits_of n) 0 0 ≡ 48 → n ≡ 0
 first_of zero e = refl
 first_of (suc n) e = absurd (omega (arith, first_digit (suc n) (omega arith)))
 
-digits_form : (n : ℕ) → Digits (digits_of n)
+pub digits_form : (n : ℕ) → Digits (digits_of n)
 digits_form n = record { some = digits_some n; each = digits_are n; zero_alone = λ e. length_small n (omega (arith, first_of n e)) }
 
 pub canonical_form : (z : ℤ) → Numeral (decimal_of z)
@@ -48,22 +48,26 @@ unfolding decimal_of
 canonical_form (pos n) = plain (digits_form n)
 canonical_form (negsuc n) = minus (digits_form (suc n)) (λ e. omega (arith, first_of (suc n) e))
 
--- the number of a text
-pub record NumberOf (text : List ℕ) : Type 0 where
-  pub number : ℤ
-  pub is : decimal_of number ≡ text
+-- the number whose digits a text is
+pub record DigitsOf (text : List ℕ) : Type 0 where
+  pub number : ℕ
+  pub is : digits_of number ≡ text
 
-digits_number : (l : List ℕ) → Digits l → NumberOf l
-unfolding decimal_of
+pub digits_number : (l : List ℕ) → Digits l → DigitsOf l
 digits_number [] d = absurd (omega (arith, d.some))
 digits_number (b ∷ l) d =
     by_cases (ℕ_discrete b 48)
-    (λ e. record { number = pos 0; is = digits_small 0 (omega arith) ∙ alone l (d.zero_alone e) e })
-    (λ n. let s = digits_all b l d.each n in record { number = pos (suc s.less); is = s.is })
+    (λ e. record { number = 0; is = digits_small 0 (omega arith) ∙ alone l (d.zero_alone e) e })
+    (λ n. let s = digits_all b l d.each n in record { number = suc s.less; is = s.is })
   where
     alone : (t : List ℕ) → suc (length t) ≡ 1 → b ≡ 48 → 48 ∷ [] ≡ b ∷ t
     alone [] h e = ap (λ (x : ℕ). x ∷ []) (sym e)
     alone (x ∷ t) h e = absurd (omega arith)
+
+-- the number of a text
+pub record NumberOf (text : List ℕ) : Type 0 where
+  pub number : ℤ
+  pub is : decimal_of number ≡ text
 
 minus_number : (l : List ℕ) → Digits l → (get_or l 0 0 ≡ 48 → ⊥) → NumberOf (45 ∷ l)
 unfolding decimal_of
@@ -71,5 +75,6 @@ minus_number [] d n = absurd (omega (arith, d.some))
 minus_number (b ∷ l) d n = let s = digits_all b l d.each n in record { number = negsuc s.less; is = ap (λ (t : List ℕ). 45 ∷ t) s.is }
 
 pub canonical_all : {text : List ℕ} → Numeral text → NumberOf text
-canonical_all (plain d) = digits_number _ d
+unfolding decimal_of
+canonical_all (plain d) = let n = digits_number _ d in record { number = pos n.number; is = n.is }
 canonical_all (minus d n) = minus_number _ d n

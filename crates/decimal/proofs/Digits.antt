@@ -1,34 +1,28 @@
 -- The digits of a number: how they are made, that they are digits, how they start, and how many there are.
-use mathlib.Core.Path.{◌≡◌, refl, sym, ap, ◌∙◌}
-use mathlib.Core.Bool.{Bool, true, false, cond, ◌&&◌}
+use mathlib.Core.Path.{◌≡◌, refl, ap, ◌∙◌}
+use mathlib.Core.Bool.{true, false, cond}
 use mathlib.Core.List.{List, [], ◌∷◌, ◌++◌}
-use Prim.Native.Nat.{ℕ, zero, suc, ◌+◌, ◌*◌, ◌/◌, ◌%◌, ◌≤◌, ◌<◌}
+use Prim.Native.Nat.{ℕ, zero, suc, ◌+◌, ◌*◌, ◌/◌, ◌%◌, ◌^◌, ◌≤◌, ◌<◌}
 use native.Mathlib.Omega.{arith}
 use native.Mathlib.Decide.{dec_lt}
-use borrow.Author.Tests.{lt-ltb, le-ltb, le-leb, leb-true}
-use lib.Dec.{leb, ltb}
+use borrow.Author.Tests.{lt-ltb, le-ltb}
+use lib.Dec.{ltb}
 use lib.ListN.{length, get_or, length-append, get_or-append}
+use Rattle.std.proofs.lemmas.Grind.{common_steps}
 use Rattle.decimal.specs.Numbers.{is_digit, digits_in, digits_of}
-
-pub by_cases {ℓ} : {A : Type 0} {B : Type ℓ} → Dec A → (A → B) → ((A → ⊥) → B) → B
-by_cases (yes a) f g = f a
-by_cases (no n) f g = g n
+pub use Rattle.std.proofs.Math.Logic.{by_cases}
 
 pub clash : true ≡ false → ⊥
-clash e = let i : ◌≡◌ {A = ℕ} 0 1 = cc in omega arith
+clash e = cc
 
 -- ---- one digit
-both : (a b : Bool) → (a && b) ≡ true → (a ≡ true) × (b ≡ true)
-both true b e = (refl, e)
-both false b e = absurd (clash (sym e))
-
 pub digit_range : (byte : ℕ) → is_digit byte ≡ true → (48 ≤ byte) × (byte ≤ 57)
 unfolding is_digit
-digit_range byte h = let w = both (leb 48 byte) (leb byte 57) h in (leb-true 48 byte w.0, leb-true byte 57 w.1)
+digit_range byte h = (grind (arith, common_steps), grind (arith, common_steps))
 
 pub in_range : (byte : ℕ) → 48 ≤ byte → byte ≤ 57 → is_digit byte ≡ true
 unfolding is_digit
-in_range byte h k = rw (le-leb 48 byte h, le-leb byte 57 k)
+in_range byte h k = grind (arith, common_steps)
 
 -- ---- how they are made
 steps_enough : (f g n : ℕ) → n ≤ f → n ≤ g → digits_in f n ≡ digits_in g n
@@ -94,18 +88,12 @@ first_digit = by_tens (λ n. 0 < n → 48 < get_or (digits_of n) 0 0)
     (λ n h r i. rw (digits_large n h, get_or-append (digits_of (n / 10)) ((48 + n % 10) ∷ []) 0 0 (digits_some (n / 10))) (r (omega arith)))
 
 -- ---- a number below a power of ten has so many digits at most
-unfoldable ten_to : ℕ → ℕ
-ten_to zero = 10
-ten_to (suc k) = ten_to k * 10
-
-digits_below : (k n : ℕ) → n < ten_to k → length (digits_of n) ≤ suc k
-unfolding ten_to
+digits_below : (k n : ℕ) → n < 10 ^ suc k → length (digits_of n) ≤ suc k
 digits_below zero n h = omega (arith, length_small n h)
 digits_below (suc k) n h =
     by_cases (dec_lt n 10)
     (λ q. omega (arith, length_small n q))
-    (λ q. omega (arith, length_large n (omega (arith, q)), digits_below k (n / 10) (omega arith)))
+    (λ q. omega (arith, length_large n (omega (arith, q)), digits_below k (n / 10) (grind (arith, common_steps))))
 
 pub digits_short : (n : ℕ) → n < 18446744073709551616 → length (digits_of n) ≤ 20
-unfolding ten_to
 digits_short n h = digits_below 19 n (omega arith)

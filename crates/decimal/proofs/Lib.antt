@@ -3,7 +3,7 @@ pub mod Digits
 pub mod Values
 pub mod Canonical
 pub mod Places
-pub mod Growing
 pub mod Limits
+pub mod Reading
 pub mod Signs
 pub mod RoundTrip

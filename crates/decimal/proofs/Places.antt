@@ -1,14 +1,14 @@
 -- A number at a place of a text: its bytes are digits up to its end, and no two numbers stand at one place.
 use mathlib.Core.Path.{◌≡◌, refl, sym, ap, ◌∙◌}
 use mathlib.Core.Bool.{true, false}
-use mathlib.Core.List.{List, [], ◌∷◌, ◌++◌}
+use mathlib.Core.List.{List, ◌∷◌}
 use Prim.Native.Nat.{ℕ, suc, ◌+◌, ◌-◌, ◌≤◌, ◌<◌}
 use native.Mathlib.Numerals.{add-one}
 use native.Mathlib.Omega.{arith}
 use native.Mathlib.Decide.{dec_lt}
 use lib.IntN.{ℤ, pos, negsuc}
 use lib.ListN.{length, get_or, take, drop, get_or-eq_default}
-use lib.Seq.{slice, slice-cons, length-slice, length-take-le, take-suc, take-add, drop-append-le, get_or-drop, get_or-take}
+use lib.Seq.{slice, slice-cons, length-slice, get_or-drop, get_or-take}
 use Rattle.decimal.specs.Numbers.{is_digit, decimal_of, NumberAt}
 use Rattle.decimal.proofs.Digits.{by_cases, clash, digits_some, digits_are}
 use Rattle.decimal.proofs.Canonical.{decimal_some, decimal_digits, no_minus, canonical_one}
@@ -16,14 +16,6 @@ use Rattle.decimal.proofs.Canonical.{decimal_some, decimal_digits, no_minus, can
 -- ---- parts of a list
 pub slice_at : (l : List ℕ) (a e k : ℕ) → a + k < e → get_or (slice a e l) k 0 ≡ get_or l (a + k) 0
 slice_at l a e k h = get_or-drop a (take e l) k 0 ∙ get_or-take e l (a + k) 0 h
-
-pub slice_more : (l : List ℕ) (a i : ℕ) → a ≤ i → i < length l → slice a (i + 1) l ≡ slice a i l ++ (get_or l i 0 ∷ [])
-slice_more l a i h k = rw (add-one i, take-suc l i 0 k) (drop-append-le a (take i l) (get_or l i 0 ∷ []) (omega (arith, length-take-le i l (omega arith))))
-
-pub slice_split : (l : List ℕ) (a i e : ℕ) → a ≤ i → i ≤ e → e ≤ length l → slice a e l ≡ slice a i l ++ take (e - i) (drop i l)
-slice_split l a i e h k m =
-    let q : e ≡ i + (e - i) = omega arith in
-    ap (λ (n : ℕ). slice a n l) q ∙ ap (drop a) (take-add i (e - i) l) ∙ drop-append-le a (take i l) (take (e - i) (drop i l)) (omega (arith, length-take-le i l (omega arith)))
 
 -- ---- a byte past the text is no digit
 pub past_no_digit : is_digit 0 ≡ false

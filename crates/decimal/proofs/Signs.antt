@@ -1,8 +1,8 @@
--- Signed numbers of 32 bits as the code takes their sign off and puts it on, through 64 bits.
+-- Signed numbers of 32 bits as the code takes their sign off, through 64 bits.
 use mathlib.Core.Path.{◌≡◌, refl, ap, ◌∙◌}
 use mathlib.Core.Bool.{true, false}
 use mathlib.Core.List.{◌∷◌}
-use Prim.Native.Nat.{ℕ, zero, suc, ◌≤◌}
+use Prim.Native.Nat.{zero, suc, ◌≤◌}
 use native.Mathlib.Omega.{arith}
 use borrow.Author.Tests.{ltb-true}
 use lib.Dec.{T}
@@ -10,7 +10,7 @@ use lib.IntN.{ℤ, pos, negsuc, neg_ℤ, nat_abs, ◌-ℤ◌, +ℤ_idl}
 use lib.Signed.{mag, lt_z, non_neg}
 use mir.Syntax.{w32, w64}
 use mir.Val.{SFits, Fits, to_z, of_z}
-use mir.ValLaws.{to_z_pos, to_z-of_z}
+use mir.ValLaws.{to_z-of_z}
 use Rattle.decimal.specs.Numbers.{decimal_of}
 use Rattle.decimal.proofs.Digits.{clash}
 
@@ -21,27 +21,6 @@ opposite_fits : (z : ℤ) → mag z ≤ 2147483648 → SFits w64 (neg_ℤ z)
 opposite_fits (pos zero) h = record { sfits = omega arith }
 opposite_fits (pos (suc n)) h = record { sfits = omega arith }
 opposite_fits (negsuc n) h = record { sfits = omega arith }
-
--- ---- a minus put on
-negative_fits_32 : (size : ℕ) → size ≤ 2147483648 → SFits w32 (neg_ℤ (pos size))
-negative_fits_32 zero h = record { sfits = omega arith }
-negative_fits_32 (suc n) h = record { sfits = omega arith }
-
-module _ (size : ℕ) (h : size ≤ 2147483648) where
-  made : pos 0 -ℤ to_z w64 size ≡ neg_ℤ (pos size)
-  made = rw (to_z_pos w64 size (omega arith)) (from_zero (pos size))
-
-  pub made_fits : SFits w64 (pos 0 -ℤ to_z w64 size)
-  made_fits = rw made (opposite_fits (pos size) h)
-
-  made_read : to_z w64 (of_z w64 (pos 0 -ℤ to_z w64 size)) ≡ neg_ℤ (pos size)
-  made_read = ap (λ (z : ℤ). to_z w64 (of_z w64 z)) made ∙ to_z-of_z w64 (neg_ℤ (pos size)) (opposite_fits (pos size) h)
-
-  pub negative_fits : SFits w32 (to_z w64 (of_z w64 (pos 0 -ℤ to_z w64 size)))
-  negative_fits = rw made_read (negative_fits_32 size h)
-
-  pub negative_is : to_z w32 (of_z w32 (to_z w64 (of_z w64 (pos 0 -ℤ to_z w64 size)))) ≡ neg_ℤ (pos size)
-  negative_is = ap (λ (z : ℤ). to_z w32 (of_z w32 z)) made_read ∙ to_z-of_z w32 (neg_ℤ (pos size)) (negative_fits_32 size h)
 
 -- ---- a minus taken off
 opposite_size : (z : ℤ) → nat_abs (neg_ℤ z) ≡ nat_abs z

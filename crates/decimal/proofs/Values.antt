@@ -1,49 +1,42 @@
 -- What digits spell, read from the left: the digits of a number spell it, more digits never spell less, and all digits spell a number.
-use mathlib.Core.Path.{◌≡◌, refl, sym, ap, ◌∙◌}
+use mathlib.Core.Path.{◌≡◌, sym, ap, ◌∙◌}
 use mathlib.Core.Bool.{true}
 use mathlib.Core.List.{List, [], ◌∷◌, ◌++◌, append_assoc, append-nil}
 use Prim.Native.Nat.{ℕ, suc, ◌+◌, ◌*◌, ◌-◌, ◌/◌, ◌%◌, ◌≤◌, ◌<◌}
 use native.Mathlib.Omega.{arith}
-use lib.ListN.{length, get_or}
+use lib.ListN.{length, get_or, take, drop, take-append-drop}
+use Rattle.std.specs.List.{fold}
+use Rattle.std.proofs.lemmas.List.Sums.{fold-append}
 use Rattle.decimal.specs.Numbers.{is_digit, digits_of}
 use Rattle.decimal.proofs.Digits.{digit_range, by_tens, digits_small, digits_large, digits_more}
 
 -- the number that bytes spell after n
-unfoldable value : ℕ → List ℕ → ℕ
-value n [] = n
-value n (b ∷ l) = value (n * 10 + (b - 48)) l
-
-value_append : (n : ℕ) (l t : List ℕ) → value n (l ++ t) ≡ value (value n l) t
-unfolding value
-value_append n [] t = refl
-value_append n (b ∷ l) t = value_append (n * 10 + (b - 48)) l t
+abbrev pub value : ℕ → List ℕ → ℕ
+value n l = fold (λ m byte. m * 10 + (byte - 48)) n l
 
 value_one : (n d : ℕ) → value n ((48 + d) ∷ []) ≡ n * 10 + d
-unfolding value
 value_one n d = omega arith
 
 value_least : (n : ℕ) (l : List ℕ) → n ≤ value n l
-unfolding value
 value_least n [] = omega arith
 value_least n (b ∷ l) = omega (arith, value_least (n * 10 + (b - 48)) l)
 
-spells : (n : ℕ) → value 0 (digits_of n) ≡ n
+pub spells : (n : ℕ) → value 0 (digits_of n) ≡ n
 spells = by_tens (λ n. value 0 (digits_of n) ≡ n)
     (λ n h. rw (digits_small n h) (value_one 0 n ∙ omega arith))
-    (λ n h r. rw (digits_large n h, value_append, r) (value_one (n / 10) (n % 10) ∙ omega arith))
+    (λ n h r. rw (digits_large n h, fold-append, r) (value_one (n / 10) (n % 10) ∙ omega arith))
 
 pub digits_one : (m n : ℕ) → digits_of m ≡ digits_of n → m ≡ n
 digits_one m n e = sym (spells m) ∙ ap (value 0) e ∙ spells n
 
--- digits that start as those of n do are those of no lesser number
-pub digits_least : (m n : ℕ) (rest : List ℕ) → digits_of m ≡ digits_of n ++ rest → n ≤ m
-digits_least m n rest e =
-    let v : m ≡ value n rest = sym (spells m) ∙ ap (value 0) e ∙ value_append 0 (digits_of n) rest ∙ ap (λ (k : ℕ). value k rest) (spells n) in
-    omega (arith, value_least n rest)
+-- more digits never spell less
+pub value_take : (l : List ℕ) (k : ℕ) → value 0 (take k l) ≤ value 0 l
+value_take l k =
+    let e : value 0 l ≡ value (value 0 (take k l)) (drop k l) = ap (value 0) (sym (take-append-drop k l)) ∙ fold-append _ 0 (take k l) (drop k l) in
+    omega (arith, value_least (value 0 (take k l)) (drop k l))
 
 -- digits after those of a number that is not 0 are the digits of what they spell together
 goes_on : (l : List ℕ) (n : ℕ) → 0 < n → ((k : ℕ) → k < length l → is_digit (get_or l k 0) ≡ true) → digits_of n ++ l ≡ digits_of (value n l)
-unfolding value
 goes_on [] n h each = append-nil (digits_of n)
 goes_on (b ∷ l) n h each =
     let w = digit_range b (each 0 (omega arith)) in

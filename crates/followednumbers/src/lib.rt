@@ -6,22 +6,15 @@ ghost use Rattle.decimal.specs.Numbers.{is_digit, ReadsFollowed};
 ghost use Rattle.integers.specs.Answers.{integer_found};
 
 use integers;
-use integers::FoundInteger;
 
 // Reads a number and the one byte that must follow it, a space or LF: the place handed back is past that byte.
-pub fn followed(text: &[u8], at: usize, byte: u8, lowest: i32, highest: i32) -> FoundInteger
+pub fn followed(text: &[u8], at: usize, byte: u8, lowest: i32, highest: i32) -> Option<(i32, usize)>
     requires { is_digit byte ≡ false }
     ensures { ReadsFollowed byte lowest highest text.now at (integer_found result) }
 {
-    let found = integers::integer(text, at, lowest, highest);
-    let FoundInteger::Number(number, past) = found else {
-        return FoundInteger::Nothing;
-    };
-    if text.len() <= past {
-        return FoundInteger::Nothing;
+    let (number, past) = integers::integer(text, at, lowest, highest)?;
+    if text.get(past) != Some(&byte) {
+        return None;
     }
-    if text[past] != byte {
-        return FoundInteger::Nothing;
-    }
-    FoundInteger::Number(number, past + 1)
+    Some((number, past + 1))
 }

@@ -1,12 +1,13 @@
 -- Lines of four numbers, read one after another and stored.
 use mathlib.Core.Path.{◌≡◌, refl, sym, ap, ◌∙◌}
-use mathlib.Core.List.{List, [], ◌∷◌, ◌++◌, map}
+use mathlib.Core.List.{List, [], ◌∷◌, ◌++◌, map, append_assoc}
 use Prim.Native.Nat.{ℕ, zero, suc, ◌+◌, ◌*◌, ◌-◌, ◌≤◌, ◌<◌}
+use borrow.Rule.Slice.PartMut.{put_mid}
 use native.Mathlib.Omega.{arith}
 use lib.Dec.{le→leb}
 use lib.IntN.{ℤ, pos}
-use lib.ListN.{length, drop, replicate, length-replicate, length-append, length-drop, length-map, set}
-use lib.Seq.{sets, length-sets}
+use lib.ListN.{length, take, drop, replicate, length-replicate, length-append, length-drop, length-map}
+use lib.Seq.{sets, length-sets, sets-eq, drop-drop}
 use Rattle.textlines.specs.Lines.{text_of}
 use Rattle.roomlines.specs.Fours.{Four, four_line, Signed32, FourFits, AllFit, nothing, more, numbers_of, FourAt, four, no_four, ReadsFour, accepts_four, refuses_four}
 use Rattle.roomlines.specs.Forms.{BreaksIn, LinesAt, FourLines}
@@ -15,13 +16,15 @@ use Rattle.roomlines.proofs.Parts.{map_append, sets_append}
 use Rattle.roomlines.proofs.Counted.{lines_more}
 use Rattle.fourlines.specs.Storing.{BufferFits, line_up_to, no_line, TakesFour, takes_four, breaks_four, up_to, broken, FoursTaken, TakesFours, takes_fours, breaks_fours}
 
--- ---- four numbers stored
-pub four_stored : (l : List ℤ) (i : ℕ) (a b d e : ℤ) → set (set (set (set l i a) (i + 1) b) (i + 2) d) (i + 3) e ≡ sets l i (a ∷ b ∷ d ∷ e ∷ [])
-four_stored l i a b d e =
-    let one : i + 1 ≡ suc i = omega arith in
-    let two : i + 2 ≡ suc (suc i) = omega arith in
-    let three : i + 3 ≡ suc (suc (suc i)) = omega arith in
-    rw (one, two, three)
+-- ---- four numbers written over a part of a buffer
+part_stored : (l vs : List ℤ) (i n : ℕ) → length vs ≡ n → i + n ≤ length l → put_mid i n l vs ≡ sets l i vs
+part_stored l vs i n e h = ap (λ (t : List ℤ). take i l ++ (vs ++ t)) (drop-drop n i l ∙ ap (λ (m : ℕ). drop (i + m) l) (sym e)) ∙ sym (sets-eq vs l i (omega arith) ∙ append_assoc (take i l) vs (drop (i + length vs) l))
+
+pub four_stored : (l written : List ℤ) (place : ℕ) (f : Four) → place + 4 ≤ length l → written ≡ numbers_of (f ∷ []) → put_mid place (place + 4 - place) l written ≡ sets l place (numbers_of (f ∷ []))
+unfolding numbers_of
+four_stored l written place f h e =
+    let p : place + 4 - place ≡ 4 = omega arith in
+    rw (p, e) (part_stored l (numbers_of (f ∷ [])) place 4 refl h)
 
 -- ---- rectangles in a list
 pub fit_append : {fs gs : List Four} → AllFit fs → AllFit gs → AllFit (fs ++ gs)

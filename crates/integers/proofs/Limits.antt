@@ -1,37 +1,17 @@
 -- Numbers in their limits, and what was found at a place of a text.
-use mathlib.Core.Path.{◌≡◌, refl, sym}
-use mathlib.Core.Bool.{Bool, true, false, not}
+use mathlib.Core.Path.{◌≡◌, refl}
 use mathlib.Core.List.{List}
 use Prim.Native.Nat.{ℕ, zero, suc, ◌+◌, ◌≤◌}
 use native.Mathlib.Omega.{arith}
-use lib.Dec.{T, leb→le}
+use lib.Dec.{leb→le}
 use lib.IntN.{ℤ, pos, negsuc, neg_ℤ}
 use lib.ListN.{get_or}
-use lib.Signed.{lt_z, ◌≤ℤ◌, lt_z_yes, lt_z_no, clash_ℤ}
+use lib.Signed.{◌≤ℤ◌}
 use mir.Syntax.{w32}
 use mir.Val.{SFits}
 use Rattle.decimal.specs.Numbers.{NumberAt, Within, Found, number, nothing, Reads, accepts, refuses, Limited, within, beyond}
-use Rattle.decimal.proofs.Digits.{clash}
 use Rattle.decimal.proofs.Limits.{natural_limits}
 use Rattle.decimal.proofs.Places.{number_one, pos_no_minus, minus_starts, minus_off, minus_on}
-
-holds : (b : Bool) → b ≡ true → T b
-holds true e = tt
-holds false e = absurd (clash (sym e))
-
-fails : (b : Bool) → b ≡ false → T (not b)
-fails true e = absurd (clash e)
-fails false e = tt
-
--- ---- one number judged by its limits
-pub too_low : {lowest highest z : ℤ} {past : ℕ} → lt_z z lowest ≡ true → Limited lowest highest z past nothing
-too_low {lowest} {highest} {z} e = beyond (λ w. clash_ℤ (lt_z_yes (holds (lt_z z lowest) e)) w.low)
-
-pub too_high : {lowest highest z : ℤ} {past : ℕ} → lt_z highest z ≡ true → Limited lowest highest z past nothing
-too_high {lowest} {highest} {z} e = beyond (λ w. clash_ℤ (lt_z_yes (holds (lt_z highest z) e)) w.high)
-
-pub in_limits_lem : {lowest highest z : ℤ} {past : ℕ} → lt_z z lowest ≡ false → lt_z highest z ≡ false → Limited lowest highest z past (number z past)
-in_limits_lem {lowest} {highest} {z} d e = within (record { low = lt_z_no (fails (lt_z z lowest) d); high = lt_z_no (fails (lt_z highest z) e) })
 
 -- a number that stands at the place, once it is judged
 pub limited_reads : {lowest highest z : ℤ} {text : List ℕ} {at past : ℕ} {found : Found} → NumberAt text at z past → Limited lowest highest z past found → Reads lowest highest text at found

@@ -1,9 +1,8 @@
 -- The code's answer as what was found.
+use Rattle.std.specs.Prelude.{ℕ, ℤ, Option, Some, None}
 use Rattle.decimal.specs.Numbers.{Found, number, nothing}
-use Rattle.integers.specs.declared.FoundInteger.{FoundInteger}
-use Rattle.integers.specs.declared.FoundInteger.TheVariants as integer
 
 -- a number, and the place after it
-unfoldable pub integer_found : FoundInteger → Found
-integer_found (integer.Number value past) = number value past
-integer_found integer.Nothing = nothing
+unfoldable pub integer_found : Option (ℤ × ℕ) → Found
+integer_found (Some (value, past)) = number value past
+integer_found None = nothing

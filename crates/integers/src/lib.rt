@@ -6,23 +6,12 @@ ghost use Rattle.decimal.specs.Numbers.{Limited, Reads};
 ghost use Rattle.integers.specs.Answers.{integer_found};
 
 use decimal::read;
-use decimal::read::FoundNatural;
-
-// A number and the place after it, or no number.
-#[derive(Drop)]
-pub enum FoundInteger {
-    Number(i32, usize),
-    Nothing,
-}
 
 // A minus stands at a place of the text.
 fn minus_at(text: &[u8], at: usize) -> bool
     ensures { result ≡ eqb (get_or text.now at 0) 45 }
 {
-    if text.len() <= at {
-        return false;
-    }
-    text[at] == b'-'
+    text.get(at) == Some(&b'-')
 }
 
 // The number below 0 of that size.
@@ -30,39 +19,30 @@ fn negative(size: u32) -> i32
     requires { size ≤ 2147483648 }
     ensures { result ≡ neg_ℤ (pos size) }
 {
-    (0 - (size as i64)) as i32
+    (0 - i64::from(size)) as i32
 }
 
 // A number that was read, where it is in its limits.
-fn limited(number: i32, past: usize, lowest: i32, highest: i32) -> FoundInteger
+fn limited(number: i32, past: usize, lowest: i32, highest: i32) -> Option<(i32, usize)>
     ensures { Limited lowest highest number past (integer_found result) }
 {
-    if number < lowest {
-        return FoundInteger::Nothing;
+    if !(lowest..=highest).contains(&number) {
+        return None;
     }
-    if highest < number {
-        return FoundInteger::Nothing;
-    }
-    FoundInteger::Number(number, past)
+    Some((number, past))
 }
 
-// Reads a number from the lowest to the highest that is accepted.
-pub fn integer(text: &[u8], at: usize, lowest: i32, highest: i32) -> FoundInteger
+// Reads a number from the lowest to the highest that is accepted: the number, and the place after it.
+pub fn integer(text: &[u8], at: usize, lowest: i32, highest: i32) -> Option<(i32, usize)>
     ensures { Reads lowest highest text.now at (integer_found result) }
 {
     if minus_at(text, at) {
-        let size = read::natural(text, at + 1, 2147483648);
-        let FoundNatural::Number(below, end) = size else {
-            return FoundInteger::Nothing;
-        };
+        let (below, past) = read::natural(text, at + 1, 2147483648)?;
         if below == 0 {
-            return FoundInteger::Nothing;
+            return None;
         }
-        return limited(negative(below), end, lowest, highest);
+        return limited(negative(below), past, lowest, highest);
     }
-    let from_zero = read::natural(text, at, 2147483647);
-    let FoundNatural::Number(above, past) = from_zero else {
-        return FoundInteger::Nothing;
-    };
+    let (above, past) = read::natural(text, at, 2147483647)?;
     limited(above as i32, past, lowest, highest)
 }

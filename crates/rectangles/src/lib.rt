@@ -6,66 +6,38 @@ ghost use Rattle.rectangles.specs.Readings.{TakesEnd, TakesTail};
 ghost use Rattle.rectangles.specs.Answers.{end_found, tail_found};
 
 use sections;
-use sections::FoundSection;
+use textlines::broken::Broken;
 
-// How many resources there are and the place after the targets, or how many lines stand before the one that breaks.
-#[derive(Drop)]
-enum FoundEnd {
-    End(usize, usize),
-    Broken(usize),
+// How many blockers and resources there are, and the place after the targets.
+#[derive(Clone, Copy, Debug, PartialEq, Eq)]
+pub struct Counts {
+    pub blockers: usize,
+    pub resources: usize,
+    pub past: usize,
 }
 
-// How many blockers and resources there are and the place after the targets, or how many lines stand before the one that breaks.
-#[derive(Drop)]
-pub enum FoundTail {
-    Tail(usize, usize, usize),
-    Broken(usize),
-}
-
-// Reads the resources and the target box, and stores them from a place on.
-fn end(text: &[u8], at: usize, numbers: &mut [i32], place: usize) -> FoundEnd
+// Reads the resources and the target box, and stores them from a place on. Answers how many resources there are and the place after the targets.
+fn end(text: &[u8], at: usize, numbers: &mut [i32], place: usize) -> Result<(usize, usize), Broken>
     requires { BufferFits text.now at numbers.old place }
     ensures { TakesEnd text.now at place numbers.old numbers.new (end_found result) }
 {
-    let taken = sections::section(text, at, 0, 2147483647, numbers, place);
-    match taken {
-        FoundSection::Broken(passed) => {
-            return FoundEnd::Broken(passed);
-        }
-        FoundSection::Section(resources, from) => {
-            let last = sections::section(text, from, 1, 1, numbers, place + 4 * resources);
-            match last {
-                FoundSection::Broken(passed) => {
-                    return FoundEnd::Broken(resources + 1 + passed);
-                }
-                FoundSection::Section(targets, past) => {
-                    return FoundEnd::End(resources, past);
-                }
-            }
-        }
-    }
+    let (resources, from) = sections::section(text, at, 0, 2147483647, numbers, place)?;
+    let targets = sections::section(text, from, 1, 1, numbers, place + 4 * resources);
+    let (_, past) = targets.map_err(|broken| broken.after(resources + 1))?;
+    Ok((resources, past))
 }
 
 // Reads the blockers, the resources and the target box, and stores them from the buffer's start on.
-pub fn tail(text: &[u8], at: usize, numbers: &mut [i32]) -> FoundTail
+pub fn tail(text: &[u8], at: usize, numbers: &mut [i32]) -> Result<Counts, Broken>
     requires { BufferFits text.now at numbers.old 0 }
     ensures { TakesTail text.now at numbers.old numbers.new (tail_found result) }
 {
-    let taken = sections::section(text, at, 0, 2147483647, numbers, 0);
-    match taken {
-        FoundSection::Broken(passed) => {
-            return FoundTail::Broken(passed);
-        }
-        FoundSection::Section(blockers, from) => {
-            let rest = end(text, from, numbers, 4 * blockers);
-            match rest {
-                FoundEnd::Broken(passed) => {
-                    return FoundTail::Broken(blockers + 1 + passed);
-                }
-                FoundEnd::End(resources, past) => {
-                    return FoundTail::Tail(blockers, resources, past);
-                }
-            }
-        }
-    }
+    let (blockers, from) = sections::section(text, at, 0, 2147483647, numbers, 0)?;
+    let rest = end(text, from, numbers, 4 * blockers);
+    let (resources, past) = rest.map_err(|broken| broken.after(blockers + 1))?;
+    Ok(Counts {
+        blockers,
+        resources,
+        past,
+    })
 }

@@ -8,31 +8,30 @@ ghost use Rattle.roomgrid.specs.Answers.{grid_found};
 use reader;
 use roomlines::counts::FoundCount;
 use roomrows;
-use roomrows::FoundRows;
+use textlines::broken::Broken;
 
-// The width and the height of a map and the place after it, or how many of its lines stand before the one that breaks its form.
-#[derive(Drop)]
-pub enum FoundGrid {
-    Grid(usize, usize, usize),
-    Broken(usize),
+// The width and the height of a map, and the place after it.
+#[derive(Clone, Copy, Debug, PartialEq, Eq)]
+pub struct Map {
+    pub width: usize,
+    pub height: usize,
+    pub past: usize,
 }
 
 // Reads the section of rows, their count and then the rows, and stores their cells.
-pub fn grid(text: &[u8], at: usize, cells: &mut [u8]) -> FoundGrid
+pub fn grid(text: &[u8], at: usize, cells: &mut [u8]) -> Result<Map, Broken>
     requires { CellsFit text.now at cells.old }
     ensures { TakesGrid text.now at cells.old cells.new (grid_found result) }
 {
     let number = reader::count_at(text, at, 1, 2147483647);
     let FoundCount::Count(height, first) = number else {
-        return FoundGrid::Broken(0);
+        return Err(Broken { passed: 0 });
     };
     let lines = roomrows::rows(text, first, height, cells);
-    match lines {
-        FoundRows::Rows(width, past) => {
-            return FoundGrid::Grid(width, height, past);
-        }
-        FoundRows::Broken(passed) => {
-            return FoundGrid::Broken(passed + 1);
-        }
-    }
+    let (width, past) = lines.map_err(|broken| broken.after(1))?;
+    Ok(Map {
+        width,
+        height,
+        past,
+    })
 }

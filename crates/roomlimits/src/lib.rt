@@ -5,22 +5,15 @@ ghost use Rattle.std.specs.Prelude.{◌≡◌, ◌+◌, ◌*◌, replicate};
 ghost use Rattle.roomlimits.specs.Limits.{in_limits};
 
 // A room is not larger than the program takes.
+#[tactic(auto, unfolding(crate::specs::Limits::in_limits))]
 pub fn in_limits(width: usize, height: usize, blockers: usize, resources: usize) -> bool
     ensures { result ≡ in_limits width height blockers resources }
 {
-    if height > 60 {
-        return false;
-    }
-    if width > 60 {
-        return false;
-    }
-    if blockers > 64 {
-        return false;
-    }
-    resources <= 8
+    height <= 60 && width <= 60 && blockers <= 64 && resources <= 8
 }
 
 // One byte more than the 8,192 that a room text has at most.
+// Stays: three functions, not one with a const parameter, which would be `[0; N]` itself: each clause says from which limits its number comes.
 pub fn text() -> [u8; 8193]
     ensures { result ≡ replicate (8192 + 1) 0 }
 {

@@ -1,17 +1,18 @@
 -- The code's answers as what was found.
-use Rattle.roomlines.specs.Fours.{FourFound, four, no_four}
+use Rattle.std.specs.Prelude.{List, ℕ, ℤ, pos, get_or, Option, Some, None}
+use Rattle.roomlines.specs.Fours.{Four, FourFound, four, no_four}
 use Rattle.roomlines.specs.Forms.{CountFound, count, no_count}
-use Rattle.roomlines.specs.declared.counts.FoundCount.{FoundCount}
-use Rattle.roomlines.specs.declared.counts.FoundCount.TheVariants as counts
-use Rattle.roomlines.specs.declared.fours.FoundFour.{FoundFour}
-use Rattle.roomlines.specs.declared.fours.FoundFour.TheVariants as fours
 
 -- a count, and the place after its line
-unfoldable pub count_found : FoundCount → CountFound
-count_found (counts.Count number past) = count number past
-count_found counts.Nothing = no_count
+unfoldable pub count_found : Option (ℕ × ℕ) → CountFound
+count_found (Some (number, past)) = count number past
+count_found None = no_count
+
+-- "four i32: left, top, right, bottom", in that order
+abbrev pub four_of : List ℤ → Four
+four_of numbers = record { left = get_or numbers 0 (pos 0); top = get_or numbers 1 (pos 0); right = get_or numbers 2 (pos 0); bottom = get_or numbers 3 (pos 0) }
 
 -- four numbers, and the place after their line
-unfoldable pub four_found : FoundFour → FourFound
-four_found (fours.Four left top right bottom past) = four (record { left = left; top = top; right = right; bottom = bottom }) past
-four_found fours.Nothing = no_four
+unfoldable pub four_found : Option (List ℤ × ℕ) → FourFound
+four_found (Some (numbers, past)) = four (four_of numbers) past
+four_found None = no_four

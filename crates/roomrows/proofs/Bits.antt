@@ -1,35 +1,23 @@
 -- Cells stored from a place on.
-use mathlib.Core.Path.{◌≡◌, refl, sym, ap, ◌∙◌}
-use mathlib.Core.List.{List, [], ◌∷◌, map}
-use Prim.Native.Nat.{ℕ, ◌+◌, ◌<◌}
-use native.Mathlib.Numerals.{add-one}
+use mathlib.Core.Path.{◌≡◌, sym, ap, ◌∙◌}
+use mathlib.Core.List.{List, ◌++◌, map, append_assoc}
+use Prim.Native.Nat.{ℕ, ◌+◌, ◌-◌, ◌≤◌}
 use native.Mathlib.Omega.{arith}
-use borrow.Author.Tests.{eq-eqb, ne_eqb}
-use lib.ListN.{length, get_or, take, drop, set, length-drop, length-map}
-use lib.Seq.{sets, length-take-le, take-suc, get_or-drop}
-use Rattle.roomlines.proofs.Parts.{map_append, sets_append}
+use borrow.Rule.Slice.PartMut.{put_mid}
+use lib.ListN.{length, take, drop, length-drop, length-map}
+use lib.Seq.{sets, sets-eq, drop-drop, length-take-le}
 use Rattle.roomrows.specs.Rows.{cell_of}
 
--- ---- bytes
-pub cell_dot : (byte : ℕ) → byte ≡ 46 → 1 ≡ cell_of byte
-unfolding cell_of
-cell_dot byte e = rw (eq-eqb byte 46 e)
+-- values written over a part of a buffer
+part_stored : (l vs : List ℕ) (i n : ℕ) → length vs ≡ n → i + n ≤ length l → put_mid i n l vs ≡ sets l i vs
+part_stored l vs i n e h = ap (λ (t : List ℕ). take i l ++ (vs ++ t)) (drop-drop n i l ∙ ap (λ (m : ℕ). drop (i + m) l) (sym e)) ∙ sym (sets-eq vs l i (omega arith) ∙ append_assoc (take i l) vs (drop (i + length vs) l))
 
-pub cell_other : (byte : ℕ) → (byte ≡ 46 → ⊥) → 0 ≡ cell_of byte
-unfolding cell_of
-cell_other byte n = rw (ne_eqb byte 46 n)
-
--- ---- cells stored
-pub stored_none : (text : List ℕ) (at : ℕ) (before : List ℕ) (place : ℕ) → before ≡ sets before place (map cell_of (take 0 (drop at text)))
-stored_none text at before place = refl
-
-pub stored_more : (text : List ℕ) (at : ℕ) (before now : List ℕ) (place k byte : ℕ) → at + k < length text → now ≡ sets before place (map cell_of (take k (drop at text))) → byte ≡ cell_of (get_or text (at + k) 0) → set now (place + k) byte ≡ sets before place (map cell_of (take (k + 1) (drop at text)))
-stored_more text at before now place k byte h e b =
-    rw (e, b) (sym (ap (λ (l : List ℕ). sets before place (map cell_of l)) (ap (λ (i : ℕ). take i (drop at text)) (add-one k) ∙ take-suc (drop at text) k 0 (omega (arith, length-drop at text))) ∙
-    ap (sets before place) (map_append cell_of (take k (drop at text)) (get_or (drop at text) k 0 ∷ [])) ∙
-    sets_append before place (map cell_of (take k (drop at text))) (cell_of (get_or (drop at text) k 0) ∷ []) ∙
-    ap (λ (i : ℕ). set (sets before place (map cell_of (take k (drop at text)))) (place + i) (cell_of (get_or (drop at text) k 0))) long ∙
-    ap (λ (x : ℕ). set (sets before place (map cell_of (take k (drop at text)))) (place + k) (cell_of x)) (get_or-drop at text k 0)))
-  where
-    long : length (map cell_of (take k (drop at text))) ≡ k
-    long = length-map (take k (drop at text)) cell_of ∙ length-take-le k (drop at text) (omega (arith, length-drop at text))
+-- the cells of a row written over a part of a buffer
+pub row_stored : (text cells stored : List ℕ) (from to width : ℕ) → from + width ≤ length text → to + width ≤ length cells → stored ≡ map cell_of (take (from + width - from) (drop from text)) → put_mid to (to + width - to) cells stored ≡ sets cells to (map cell_of (take width (drop from text)))
+row_stored text cells stored from to width h k e =
+    let p : from + width - from ≡ width = omega arith in
+    let q : to + width - to ≡ width = omega arith in
+    let row : List ℕ = take width (drop from text) in
+    let s : stored ≡ map cell_of row = rw p at e in
+    let size : length (map cell_of row) ≡ width = length-map row cell_of ∙ length-take-le width (drop from text) (omega (arith, length-drop from text)) in
+    rw (q, s) (part_stored cells (map cell_of row) to width size k)

@@ -108,7 +108,7 @@ same_width nothing b first = first refl
 same_width (more r a) (more s b) first = sym s.size ∙ r.size
 
 module _ {text : List ℕ} {at n width : ℕ} {before now : List ℕ} {from to passed : ℕ} (r : RowsRead text at n width before now from to passed) where
-  pub rows_length : length now ≡ length before
+  rows_length : length now ≡ length before
   rows_length = ap length r.stored ∙ length-sets before 0 (cells_of r.lines)
 
   pub rows_room : CellsFit text at before → JudgesRow text from width true → (from + width < length text) × (to + width ≤ length now)

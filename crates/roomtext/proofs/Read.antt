@@ -11,7 +11,6 @@ use Rattle.roomlines.specs.Forms.{LinesAt}
 use Rattle.roomlines.proofs.Parts.{length_parts}
 use Rattle.roomlines.proofs.Counted.{lines_append, breaks_short}
 use Rattle.fourlines.specs.Storing.{BufferFits}
-use Rattle.roomrows.specs.Rows.{CellsFit}
 use Rattle.roomgrid.specs.Grids.{grid, grid_broken, GridTaken, TakesGrid, takes_grid, breaks_grid}
 use Rattle.rectangles.specs.Readings.{counted, tail, tail_broken, TailTaken, TakesTail, takes_tail, breaks_tail}
 use Rattle.rectangles.proofs.Joined.{first_breaks, second_breaks}
@@ -26,9 +25,6 @@ room_none (breaks_grid b) e = rw e (breaks_at (room_breaks (first_breaks rows_en
 pub grid_taken : {text cells-before cells-after : List ℕ} {width height past : ℕ} → TakesGrid text 0 cells-before cells-after (grid width height past) → GridTaken text 0 cells-before cells-after width height past
 grid_taken (takes_grid g) = g
 
-pub grid_short : {text cells-before cells-after : List ℕ} {passed : ℕ} → TakesGrid text 0 cells-before cells-after (grid_broken passed) → passed ≤ length text
-grid_short (breaks_grid b) = breaks_short b
-
 pub tail_short : {text : List ℕ} {at passed : ℕ} {before after : List ℤ} → TakesTail text at before after (tail_broken passed) → passed ≤ length text
 tail_short {text} {at} (breaks_tail b) = omega (arith, breaks_short b, length-drop at text)
 
@@ -36,9 +32,6 @@ pub tail_taken_of : {text : List ℕ} {at m n past : ℕ} {before after : List �
 tail_taken_of (takes_tail t) = t
 
 -- ---- the buffers
-pub cells_fit : {text cells : List ℕ} {numbers : List ℤ} → RoomFits text cells numbers → CellsFit text 0 cells
-cells_fit f = record { inside = omega arith; long = f.cells_long }
-
 pub numbers_fit : {text cells-before cells-after cells : List ℕ} {numbers : List ℤ} {width height from : ℕ} → RoomFits text cells numbers → GridTaken text 0 cells-before cells-after width height from → BufferFits text from numbers 0
 numbers_fit f g = record { inside = g.stand.inside; behind = omega arith; long = f.numbers_long }
 
@@ -102,6 +95,10 @@ module _ {text cells-before cells-after : List ℕ} {width height from : ℕ} (g
     made_size =
         length_parts (counted g.lines) (counted (map four_line t.blockers)) (counted (map four_line t.resources)) (counted (four_line t.targets ∷ [])) ∙
         omega (arith, grid_size, fours_size t.blockers, fours_size t.resources, fours_size (t.targets ∷ []), t.blockers_number, t.resources_number)
+
+    -- so many lines are far below the largest number
+    pub room_few : height + m + n ≤ 6442450941
+    room_few = omega (arith, g.high, t.blockers_high, t.resources_high)
 
     pub room_read : length text ≤ past → ReadsRoom text cells-before cells-after before after (room width height m n)
     unfolding room_text

@@ -1,61 +1,40 @@
-// A room text, read section by section in one pass. What is read is stored in lent buffers, and a text that breaks the form is answered with its first line that does.
+// A room text, read section by section in one pass. What is read is stored in lent buffers, and a text that is not in the form is answered with how many lines stand before the first one that breaks it.
 #![tactic(auto)]
 
 ghost use Rattle.roomtext.specs.Readings.{ReadsRoom, RoomFits};
 ghost use Rattle.roomtext.specs.Answers.{room_found};
 
 use rectangles;
-use rectangles::FoundTail;
 use roomgrid;
-use roomgrid::FoundGrid;
 use textlines;
+use textlines::broken::Broken;
 
-// The size of the map and how many blockers and resources there are, or the line that breaks the form.
-#[derive(Drop)]
-pub enum Reading {
-    Room {
-        width: usize,
-        height: usize,
-        blockers: usize,
-        resources: usize,
-    },
-    Broken {
-        line: usize,
-    },
+// How large a room is: the size of its map, and how many blockers and resources there are.
+#[derive(Clone, Copy, Debug, PartialEq, Eq)]
+pub struct Size {
+    pub width: usize,
+    pub height: usize,
+    pub blockers: usize,
+    pub resources: usize,
 }
 
 // Reads a room text whole: the rows, and then the rectangles. Nothing follows the last line.
-pub fn room(text: &[u8], cells: &mut [u8], numbers: &mut [i32]) -> Reading
+pub fn room(text: &[u8], cells: &mut [u8], numbers: &mut [i32]) -> Result<Size, Broken>
     requires { RoomFits text.now cells.old numbers.old }
     ensures { ReadsRoom text.now cells.old cells.new numbers.old numbers.new (room_found result) }
 {
-    let map = roomgrid::grid(text, 0, cells);
-    match map {
-        FoundGrid::Broken(passed) => {
-            return Reading::Broken { line: passed + 1 };
-        }
-        FoundGrid::Grid(width, height, from) => {
-            let rest = rectangles::tail(text, from, numbers);
-            match rest {
-                FoundTail::Broken(passed) => {
-                    return Reading::Broken {
-                        line: height + passed + 2,
-                    };
-                }
-                FoundTail::Tail(blockers, resources, past) => {
-                    if textlines::goes_on(text, past) {
-                        return Reading::Broken {
-                            line: height + blockers + resources + 6,
-                        };
-                    }
-                    return Reading::Room {
-                        width,
-                        height,
-                        blockers,
-                        resources,
-                    };
-                }
-            }
-        }
+    let map = roomgrid::grid(text, 0, cells)?;
+    let rest = rectangles::tail(text, map.past, numbers);
+    let counts = rest.map_err(|broken| broken.after(map.height + 1))?;
+    if textlines::goes_on(text, counts.past) {
+        return Err(Broken {
+            passed: map.height + counts.blockers + counts.resources + 5,
+        });
     }
+    Ok(Size {
+        width: map.width,
+        height: map.height,
+        blockers: counts.blockers,
+        resources: counts.resources,
+    })
 }

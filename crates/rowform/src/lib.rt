@@ -2,16 +2,22 @@
 #![tactic(auto)]
 
 ghost use Rattle.std.specs.Prelude.{◌≡◌, ◌≤◌, length};
+ghost use Rattle.std.specs.List.{list_all};
 ghost use Rattle.rowform.specs.Rows.{is_cell, JudgesRow};
 
 // A byte of a row.
+#[tactic(auto, unfolding(crate::specs::Rows::is_cell))]
 fn is_cell(byte: u8) -> bool
     ensures { result ≡ is_cell byte }
 {
-    if byte == b'.' {
-        return true;
-    }
-    byte == b'#'
+    byte == b'.' || byte == b'#'
+}
+
+// Bytes of a row and no others.
+fn all_cells(bytes: &[u8]) -> bool
+    ensures { result ≡ list_all is_cell bytes.now }
+{
+    bytes.iter().all(|byte| is_cell(*byte))
 }
 
 // A row of that width stands at a place, ended by LF.
@@ -19,18 +25,6 @@ pub fn is_row(text: &[u8], at: usize, width: usize) -> bool
     requires { at ≤ length text.now }
     ensures { JudgesRow text.now at width result }
 {
-    if text.len() - at <= width {
-        return false;
-    }
-    if text[at + width] != b'\n' {
-        return false;
-    }
-    let mut k: usize = 0;
-    while k < width {
-        if !is_cell(text[at + k]) {
-            return false;
-        }
-        k += 1;
-    }
-    true
+    let rest = &text[at..];
+    rest.get(width) == Some(&b'\n') && all_cells(&rest[..width])
 }

@@ -7,18 +7,11 @@ ghost use Rattle.sections.specs.Storing.{TakesSection};
 ghost use Rattle.sections.specs.Answers.{section_found};
 
 use fourlines;
-use fourlines::FoundLines;
 use reader;
 use roomlines::counts::FoundCount;
+use textlines::broken::Broken;
 
-// How many rectangles a section has and the place after it, or how many of its lines stand before the one that breaks its form.
-#[derive(Drop)]
-pub enum FoundSection {
-    Section(usize, usize),
-    Broken(usize),
-}
-
-// Reads a section, its count and then so many lines of four numbers, and stores these.
+// Reads a section, its count and then so many lines of four numbers, and stores these. Answers the count and the place after the section.
 pub fn section(
     text: &[u8],
     at: usize,
@@ -26,21 +19,15 @@ pub fn section(
     highest: u32,
     numbers: &mut [i32],
     place: usize,
-) -> FoundSection
+) -> Result<(usize, usize), Broken>
     requires { BufferFits text.now at numbers.old place × (lowest ≤ highest) × (highest ≤ 2147483647) }
     ensures { TakesSection lowest highest text.now at place numbers.old numbers.new (section_found result) }
 {
     let number = reader::count_at(text, at, lowest, highest);
     let FoundCount::Count(count, first) = number else {
-        return FoundSection::Broken(0);
+        return Err(Broken { passed: 0 });
     };
     let lines = fourlines::fours(text, first, count, numbers, place);
-    match lines {
-        FoundLines::Past(past) => {
-            return FoundSection::Section(count, past);
-        }
-        FoundLines::Broken(passed) => {
-            return FoundSection::Broken(passed + 1);
-        }
-    }
+    let past = lines.map_err(|broken| broken.after(1))?;
+    Ok((count, past))
 }

@@ -1,29 +1,25 @@
 // Lines of a text, each ended by LF.
 #![tactic(auto)]
 
-ghost use Rattle.std.specs.Prelude.{◌≡◌, length, ltb};
+pub mod broken;
+
+ghost use Rattle.std.specs.Prelude.{◌≡◌, ◌==◌, length, ltb, position};
 ghost use Rattle.textlines.specs.Lines.{FindsLine};
 ghost use Rattle.textlines.specs.Answers.{line_found};
 
-// A line ends at the place of an LF, or no LF ends it.
-#[derive(Drop)]
-pub enum FoundLine {
-    Ends(usize),
-    Unended,
+// Where the first LF stands.
+fn line_feed(bytes: &[u8]) -> Option<usize>
+    ensures { result ≡ position (λ byte. byte == 10) bytes.now }
+{
+    bytes.iter().position(|byte| *byte == b'\n')
 }
 
-// Where the line that starts at a place ends.
-pub fn line_end(text: &[u8], at: usize) -> FoundLine
+// Where the line that starts at a place ends, or that no LF ends it.
+pub fn line_end(text: &[u8], at: usize) -> Option<usize>
     ensures { FindsLine text.now at (line_found result) }
 {
-    let mut end = at;
-    while end < text.len() {
-        if text[end] == b'\n' {
-            return FoundLine::Ends(end);
-        }
-        end += 1;
-    }
-    FoundLine::Unended
+    let size = line_feed(text.get(at..)?)?;
+    Some(at + size)
 }
 
 // Whether a text goes on at a place.

@@ -2,7 +2,7 @@
 use mathlib.Core.Path.{◌≡◌, refl, sym, ap, ◌∙◌}
 use mathlib.Core.Bool.{Bool, true, false}
 use mathlib.Core.List.{List}
-use Prim.Native.Nat.{ℕ, ◌≤◌, ◌<◌}
+use Prim.Native.Nat.{ℕ, ◌≤◌}
 use native.Mathlib.Omega.{arith}
 use lib.IntN.{ℤ}
 use lib.ListN.{length, length-append}
@@ -18,19 +18,16 @@ use Rattle.roomtext.proofs.One.{breaks_one, taken_one}
 pub room_fits : {text cells : List ℕ} {numbers : List ℤ} → length text ≤ 8192 → TextFits cells numbers → RoomFits text cells numbers
 room_fits {text} h f = record { short = h; cells_long = omega (arith, f.cells_long); numbers_long = omega (arith, f.numbers_long) }
 
-pub long_text : {text cells : List ℕ} {numbers : List ℤ} {number place : ℕ} → 8192 < length text → number ≡ 10 → place ≡ 0 → JudgesText text cells cells numbers numbers (refused number place)
-long_text h p q = rw (p, q) (too_many_bytes h refl refl)
-
 module _ {text cells-before cells-after : List ℕ} {numbers-before numbers_after : List ℤ} (h : length text ≤ 8192) where
-  pub broken_text : {line number : ℕ} → ReadsRoom text cells-before cells-after numbers-before numbers_after (broken_at line) → number ≡ 9 → JudgesText text cells-before cells-after numbers-before numbers_after (refused number line)
+  pub broken_text : {line told : ℕ} → ReadsRoom text cells-before cells-after numbers-before numbers_after (broken_at line) → told ≡ line → JudgesText text cells-before cells-after numbers-before numbers_after (refused 9 told)
   broken_text (breaks_at b) p = rw p (breaks_form h b)
 
   pub broken_line : {line : ℕ} → ReadsRoom text cells-before cells-after numbers-before numbers_after (broken_at line) → line ≤ 8193
   broken_line (breaks_at b) = omega (arith, b.number, text_long b.first, ap length b.split, length-append (text_of b.first) b.rest)
 
   module _ {width height blockers resources : ℕ} where
-    pub large_text : {number place : ℕ} → ReadsRoom text cells-before cells-after numbers-before numbers_after (room width height blockers resources) → in_limits width height blockers resources ≡ false → number ≡ 10 → place ≡ 0 → JudgesText text cells-before cells-after numbers-before numbers_after (refused number place)
-    large_text (reads_room t) e p q = rw (p, q) (too_large h t e)
+    pub large_text : ReadsRoom text cells-before cells-after numbers-before numbers_after (room width height blockers resources) → in_limits width height blockers resources ≡ false → JudgesText text cells-before cells-after numbers-before numbers_after (refused 10 0)
+    large_text (reads_room t) e = too_large h t e
 
     pub good_text : ReadsRoom text cells-before cells-after numbers-before numbers_after (room width height blockers resources) → in_limits width height blockers resources ≡ true → JudgesText text cells-before cells-after numbers-before numbers_after (accepted width height blockers resources)
     good_text (reads_room t) e = accepts h t e

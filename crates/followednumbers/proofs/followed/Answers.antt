@@ -1,33 +1,35 @@
 -- `followednumbers::followed`: the byte after the number decides.
-use native.Mathlib.Omega.{arith}
+use Rattle.std.proofs.Common.{arith}
+use Rattle.std.proofs.lemmas.Grind.{common_steps}
 use mir.Syntax.{w32}
 use mir.ValLaws.{to_z-of_z}
-use Rattle.decimal.specs.Numbers.{Reads}
+use Rattle.decimal.specs.Numbers.{Reads, number}
 use Rattle.integers.specs.Answers.{integer_found}
 use Rattle.integers.proofs.Limits.{read_fits}
 use Rattle.followednumbers.proofs.Following.{followed_nothing, followed_reads, followed_other}
-use Rattle.followednumbers.proofs.followed.Goals.{After-integer-found}
+use Rattle.followednumbers.proofs.followed.Goals.{In_ok-number}
 use Rattle.followednumbers.proofs.followed.Goals as goal
 
+pub returns-in_err-number : goal.returns-in_err-number
+unfolding integer_found
+returns-in_err-number c =
+    let b = c in
+    rw c.from_residual.ensures
+    (followed_nothing b.requires (rw (to_z-of_z w32 b.args.lowest b.ranges.lowest, to_z-of_z w32 b.args.highest b.ranges.highest) at c.in_err-number.ensures))
+
 -- what was read, within the limits as they were given
-read : (c : After-integer-found) → Reads c.args.lowest c.args.highest c.args.text.now c.args.at (integer_found c.integer-found.result)
-read c = let b = c in rw (to_z-of_z w32 b.args.lowest b.ranges.lowest, to_z-of_z w32 b.args.highest b.ranges.highest) at c.integer-found.ensures
-
-pub returns-in_default : goal.returns-in_default
+read : (c : In_ok-number) → Reads c.args.lowest c.args.highest c.args.text.now c.args.at (number c.in_ok-number.number c.in_ok-number.past)
 unfolding integer_found
-returns-in_default c = followed_nothing c.requires (rw c.in_default.is at (read (goal.at.returns-in_default c).After-integer-found))
+read c = let b = c in rw (to_z-of_z w32 b.args.lowest b.ranges.lowest, to_z-of_z w32 b.args.highest b.ranges.highest) at c.in_ok-number.ensures
 
-pub returns-then-text-past : goal.returns-then-text-past
+pub returns-then-ne : goal.returns-then-ne
 unfolding integer_found
-returns-then-text-past c = followed_other c.requires (rw c.in-Number.is at (read (goal.at.returns-then-text-past c).After-integer-found)) (λ h e. omega (arith, c.if-text-past.true))
-
-pub returns-then-text-past-2 : goal.returns-then-text-past-2
-unfolding integer_found
-returns-then-text-past-2 c = followed_other c.requires (rw c.in-Number.is at (read (goal.at.returns-then-text-past-2 c).After-integer-found)) (λ h e. omega (arith, c.if-text-past-2.true))
+returns-then-ne c = followed_other c.requires (read (goal.at.returns-then-ne c).In_ok-number) (λ h e. grind (arith, common_steps))
 
 pub returns : goal.returns
 unfolding integer_found
 returns c =
     let b = c in
-    let r = rw c.in-Number.is at (read (goal.at.returns c).After-integer-found) in
-    rw (to_z-of_z w32 c.in-Number.number (read_fits b.ranges.lowest b.ranges.highest r)) (followed_reads b.requires r c.if-text-past.false (omega (arith, c.if-text-past-2.false)))
+    let r = read (goal.at.returns c).In_ok-number in
+    rw (to_z-of_z w32 c.in_ok-number.number (read_fits b.ranges.lowest b.ranges.highest r))
+    (followed_reads b.requires r (grind (arith, common_steps)) (grind (arith, common_steps)))

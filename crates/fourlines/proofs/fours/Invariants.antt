@@ -1,10 +1,6 @@
 -- `fourlines::fours`: the lines so far are read and stored.
-use Prim.Native.Nat.{◌-◌}
 use Rattle.fourlines.proofs.Stored.{FoursRead}
 use Rattle.fourlines.proofs.fours.Given as goal
 
 abbrev pub invariant-loop-passed : goal.invariant-loop-passed
 invariant-loop-passed l = FoursRead l.text l.at l.count l.place l.initial.numbers l.numbers l.from l.to l.passed
-
-abbrev pub decreases-loop-passed : goal.decreases-loop-passed
-decreases-loop-passed l = l.count - l.passed

@@ -1,4 +1,5 @@
 -- `fourlines::take`: what was read is stored.
+use borrow.Author.Rules.{rules}
 use mir.Syntax.{w32}
 use mir.ValLaws.{to_z-of_z}
 use Rattle.roomlines.specs.Fours.{FourAt, numbers_of}
@@ -6,7 +7,7 @@ use Rattle.fourlines.specs.Storing.{takes_four}
 use Rattle.roomlines.specs.Answers.{four_found}
 use Rattle.fourlines.specs.Answers.{line_taken}
 use Rattle.roomlines.proofs.Corners.{signed_fits}
-use Rattle.fourlines.proofs.Stored.{four_at_lem, four_room, take_none}
+use Rattle.fourlines.proofs.Stored.{four_at_lem, four_room, four_stored, take_none}
 use Rattle.fourlines.proofs.take.Goals.{In-Four}
 use Rattle.fourlines.proofs.take.Goals as goal
 
@@ -19,11 +20,11 @@ read : (c : In-Four) → FourAt c.args.text.now c.args.at (record { left = c.in-
 unfolding four_found
 read c = four_at_lem (rw c.in-Four.is at c.four_at-found.ensures)
 
-pub store-requires : goal.store-requires
-store-requires c = four_room (read (goal.at.store-requires c).In-Four) c.requires
+pub slice_bounds-copy_from_slice-end : goal.slice_bounds-copy_from_slice-end
+slice_bounds-copy_from_slice-end c = let r = four_room (read (goal.at.slice_bounds-copy_from_slice-end c).In-Four) c.requires in search rules
 
 pub returns : goal.returns
 unfolding line_taken numbers_of
 returns c =
     let a = read (goal.at.returns c).In-Four in
-    takes_four a (rw (to_z-of_z w32 c.in-Four.left (signed_fits a.fits.left), to_z-of_z w32 c.in-Four.top (signed_fits a.fits.top), to_z-of_z w32 c.in-Four.right (signed_fits a.fits.right), to_z-of_z w32 c.in-Four.bottom (signed_fits a.fits.bottom)) at c.store.ensures)
+    takes_four a (four_stored c.args.numbers.now c.copy_from_slice.new.self c.args.place _ (four_room a c.requires) (rw (to_z-of_z w32 c.in-Four.left (signed_fits a.fits.left), to_z-of_z w32 c.in-Four.top (signed_fits a.fits.top), to_z-of_z w32 c.in-Four.right (signed_fits a.fits.right), to_z-of_z w32 c.in-Four.bottom (signed_fits a.fits.bottom)) at c.copy_from_slice.ensures.after))

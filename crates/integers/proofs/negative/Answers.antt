@@ -1,12 +1,13 @@
 -- `integers::negative`: 0 less the size, through 64 bits.
-use Rattle.decimal.proofs.Signs.{made_fits, negative_fits, negative_is}
+use Rattle.std.proofs.Common.{arith}
+use Rattle.std.proofs.lemmas.Int.{ints}
 use Rattle.integers.proofs.negative.Goals as goal
 
 pub overflow_sub-result : goal.overflow_sub-result
-overflow_sub-result c = made_fits c.args.size c.requires
+overflow_sub-result c = omega (arith, ints)
 
-pub overflow_cast-result-2 : goal.overflow_cast-result-2
-overflow_cast-result-2 c = negative_fits c.args.size c.requires
+pub overflow_cast-result : goal.overflow_cast-result
+overflow_cast-result c = omega (arith, ints)
 
 pub returns : goal.returns
-returns c = negative_is c.args.size c.requires
+returns c = omega (arith, ints)

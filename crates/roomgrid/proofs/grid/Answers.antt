@@ -1,6 +1,9 @@
 -- `roomgrid::grid`: the count, and then the rows.
+use mathlib.Core.Path.{◌≡◌}
 use native.Mathlib.Omega.{arith}
 use borrow.Author.Rules.{rules}
+use Rattle.std.specs.Prelude.{◌+◌, Ok, Err}
+use Rattle.textlines.specs.declared.broken.Broken.{Broken}
 use Rattle.roomlines.specs.Forms.{ReadsCount, count}
 use Rattle.roomlines.specs.Answers.{count_found}
 use Rattle.roomrows.specs.Answers.{rows_found}
@@ -22,14 +25,19 @@ counted c = at_least_one (rw c.in-Count.is at c.count_at-number.ensures) (omega 
 pub rows-lines-requires : goal.rows-lines-requires
 rows-lines-requires c = let r = counted (goal.at.rows-lines-requires c).In-Count in (grid_fits r c.requires, omega (arith, count_least r))
 
-pub returns-in-Rows : goal.returns-in-Rows
-unfolding rows_found grid_found
-returns-in-Rows c = grid_taken (counted (goal.at.returns-in-Rows c).In-Count) (rw c.in-Rows.is at c.rows-lines.ensures)
-
-pub overflow_add-result : goal.overflow_add-result
+pub map_err-requires : goal.map_err-requires
 unfolding rows_found
-overflow_add-result c = let i = grid_short (counted (goal.at.overflow_add-result c).In-Count) (rw c.in-Broken.is at c.rows-lines.ensures) in search rules
+map_err-requires c = λ e q _ _. let i = grid_short (counted (goal.at.map_err-requires c).In-Count) (rw q at c.rows-lines.ensures) in omega arith
 
-pub returns-in-Broken : goal.returns-in-Broken
+pub returns-in_err-width : goal.returns-in_err-width
 unfolding rows_found grid_found
-returns-in-Broken c = grid_breaks (counted (goal.at.returns-in-Broken c).In-Count) (rw c.in-Broken.is at c.rows-lines.ensures) (omega arith)
+returns-in_err-width c =
+    let f : (e : Broken) × (c.rows-lines.result ≡ Err e) × (c.in_err-width.field-0.0.passed ≡ e.passed + 1) = search rules in
+    let e : c.from_residual.result ≡ Err c.in_err-width.field-0.0 = search rules in
+    rw e (grid_breaks (counted (goal.at.returns-in_err-width c).In-Count) {passed = f.0.passed} (rw f.1 at c.rows-lines.ensures) f.2)
+
+pub returns : goal.returns
+unfolding rows_found grid_found
+returns c =
+    let n : c.rows-lines.result ≡ Ok (c.in_ok-width.width, c.in_ok-width.past) = search rules in
+    grid_taken (counted (goal.at.returns c).In-Count) (rw n at c.rows-lines.ensures)

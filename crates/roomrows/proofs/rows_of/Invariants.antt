@@ -1,10 +1,6 @@
 -- `roomrows::rows_of`: the rows so far are read and stored.
-use Prim.Native.Nat.{◌-◌}
 use Rattle.roomrows.proofs.Lined.{RowsRead}
 use Rattle.roomrows.proofs.rows_of.Given as goal
 
 abbrev pub invariant-loop-passed : goal.invariant-loop-passed
 invariant-loop-passed l = RowsRead l.text l.at l.count l.width l.initial.cells l.cells l.from l.to l.passed
-
-abbrev pub decreases-loop-passed : goal.decreases-loop-passed
-decreases-loop-passed l = l.count - l.passed

@@ -1,29 +1,13 @@
 -- `rowform::is_row`: LF after the width, and cells before it.
-use mathlib.Core.Path.{◌≡◌, sym, ◌∙◌}
-use native.Mathlib.Omega.{arith}
-use Rattle.rowform.proofs.Cells.{cells_none, cells_more, too_short, other_byte, no_cell, cells_row}
+use Rattle.std.proofs.Common.{◌≡◌, ◌-◌, length, take, drop, arith}
+use Rattle.std.proofs.lemmas.Grind.{common_steps}
+use Rattle.rowform.proofs.Cells.{other_byte, cells_judged}
 use Rattle.rowform.proofs.is_row.Goals as goal
 
-pub returns-then-text-at : goal.returns-then-text-at
-returns-then-text-at c = too_short c.requires c.if-text-at.true
+pub returns-else-eq : goal.returns-else-eq
+returns-else-eq c = rw c.if-eq.false (other_byte _ _ _ (λ e. grind (arith, common_steps)))
 
-pub returns-then-text-at-ne10 : goal.returns-then-text-at-ne10
-returns-then-text-at-ne10 c = other_byte (λ e. omega (arith, c.if-text-at-ne10.true))
-
-pub loop-k-init : goal.loop-k-init
-loop-k-init c = (cells_none c.args.text.now c.args.at, omega arith)
-
-pub returns-then-not-is_cell : goal.returns-then-not-is_cell
-returns-then-not-is_cell c = no_cell c.loop-k.k c.loop-k-test.true (sym c.is_cell.ensures ∙ c.if-not-is_cell.true)
-
-pub loop-k-smaller : goal.loop-k-smaller
-loop-k-smaller c = omega arith
-
-pub loop-k-preserved : goal.loop-k-preserved
-loop-k-preserved c = (cells_more c.loop-k.invariant.0 (sym c.is_cell.ensures ∙ c.if-not-is_cell.false), omega arith)
-
-pub returns : goal.returns
-returns c =
-    let i = c.loop-k.invariant.0 in
-    let e : c.loop-k.k ≡ c.args.width = omega (arith, c.loop-k-test.false, c.loop-k.invariant.1) in
-    cells_row (omega (arith, c.if-text-at.false)) (omega (arith, c.if-text-at-ne10.false)) (rw e at i)
+pub returns-then-eq : goal.returns-then-eq
+returns-then-eq c =
+    let whole : take (length c.args.text.now - c.args.at) (drop c.args.at c.args.text.now) ≡ drop c.args.at c.args.text.now = grind (arith, common_steps) in
+    cells_judged _ _ _ (grind (arith, common_steps)) (grind (arith, common_steps)) _ (rw whole at c.all_cells.ensures)

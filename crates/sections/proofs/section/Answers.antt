@@ -1,6 +1,9 @@
 -- `sections::section`: the count, and then the lines.
+use mathlib.Core.Path.{◌≡◌}
 use native.Mathlib.Omega.{arith}
 use borrow.Author.Rules.{rules}
+use Rattle.std.specs.Prelude.{◌+◌, Ok, Err}
+use Rattle.textlines.specs.declared.broken.Broken.{Broken}
 use Rattle.roomlines.specs.Forms.{ReadsCount, count}
 use Rattle.roomlines.specs.Answers.{count_found}
 use Rattle.fourlines.specs.Answers.{lines_found}
@@ -21,14 +24,19 @@ counted c = rw c.in-Count.is at c.count_at-number.ensures
 pub fours-lines-requires : goal.fours-lines-requires
 fours-lines-requires c = section_fits (counted (goal.at.fours-lines-requires c).In-Count) c.requires.0
 
-pub returns-in-Past : goal.returns-in-Past
-unfolding lines_found section_found
-returns-in-Past c = section_taken (counted (goal.at.returns-in-Past c).In-Count) (rw c.in-Past.is at c.fours-lines.ensures)
-
-pub overflow_add-result : goal.overflow_add-result
+pub map_err-requires : goal.map_err-requires
 unfolding lines_found
-overflow_add-result c = let i = broken_short (counted (goal.at.overflow_add-result c).In-Count) (rw c.in-Broken.is at c.fours-lines.ensures) in search rules
+map_err-requires c = λ e q _ _. let i = broken_short (counted (goal.at.map_err-requires c).In-Count) (rw q at c.fours-lines.ensures) in omega arith
 
-pub returns-in-Broken : goal.returns-in-Broken
+pub returns-in_err-past : goal.returns-in_err-past
 unfolding lines_found section_found
-returns-in-Broken c = section_breaks (counted (goal.at.returns-in-Broken c).In-Count) (rw c.in-Broken.is at c.fours-lines.ensures) (omega arith)
+returns-in_err-past c =
+    let f : (e : Broken) × (c.fours-lines.result ≡ Err e) × (c.in_err-past.field-0.0.passed ≡ e.passed + 1) = search rules in
+    let e : c.from_residual.result ≡ Err c.in_err-past.field-0.0 = search rules in
+    rw e (section_breaks (counted (goal.at.returns-in_err-past c).In-Count) {passed = f.0.passed} (rw f.1 at c.fours-lines.ensures) f.2)
+
+pub returns : goal.returns
+unfolding lines_found section_found
+returns c =
+    let n : c.fours-lines.result ≡ Ok c.in_ok-past.past = search rules in
+    section_taken (counted (goal.at.returns c).In-Count) (rw n at c.fours-lines.ensures)

@@ -1,22 +1,17 @@
--- `textlines::line_end`: no LF among the bytes that were passed.
-use native.Mathlib.Omega.{arith}
+-- `textlines::line_end`: the first LF from the place on.
+use Rattle.std.proofs.Common.{arith}
 use Rattle.textlines.specs.Answers.{line_found}
-use Rattle.textlines.proofs.Lines.{without_none, without_more, without_ended, without_unended}
+use Rattle.textlines.proofs.Lines.{feed_ends, feed_unended, past_unended}
 use Rattle.textlines.proofs.line_end.Goals as goal
 
-pub loop-end-init : goal.loop-end-init
-loop-end-init c = without_none c.args.text.now c.args.at
-
-pub returns-then-text-end-eq10 : goal.returns-then-text-end-eq10
+pub returns-in_err-get : goal.returns-in_err-get
 unfolding line_found
-returns-then-text-end-eq10 c = without_ended c.loop-end.invariant c.loop-end-test.true c.if-text-end-eq10.true
+returns-in_err-get c = rw c.from_residual.ensures (past_unended (omega (arith, c.in_err-get.ensures.lookup.0)))
 
-pub loop-end-smaller : goal.loop-end-smaller
-loop-end-smaller c = omega arith
-
-pub loop-end-preserved : goal.loop-end-preserved
-loop-end-preserved c = without_more c.loop-end.invariant c.if-text-end-eq10.false
+pub returns-in_err-size : goal.returns-in_err-size
+unfolding line_found
+returns-in_err-size c = rw c.from_residual-in_err-size.ensures (feed_unended _ _ _ c.in_ok-get.ensures.lookup.0.2 c.in_err-size.ensures)
 
 pub returns : goal.returns
 unfolding line_found
-returns c = without_unended c.loop-end.invariant c.loop-end-test.false
+returns c = feed_ends _ _ _ c.in_ok-get.ensures.lookup.0.2 c.in_ok-size.ensures
