@@ -6,6 +6,7 @@ pub mod lines;
 use decimalwrite::write;
 
 // A lent buffer, and the place up to which it is written.
+#[derive(Drop)]
 pub struct Page<'a> {
     pub bytes: &'a mut [u8],
     pub at: usize,

@@ -1,7 +1,6 @@
 -- What is known of a room once the field call at 8 lanes has answered: where it was accepted its fields can be found, and its window, its targets and its sweep count go on a sheet.
 use mathlib.Core.Path.{◌≡◌}
 use mathlib.Core.Bool.{false}
-use mathlib.Core.List.{List}
 use Prim.Native.Nat.{ℕ, ◌*◌, ◌/◌, ◌≤◌, ◌<◌}
 use native.Mathlib.Nat.{mul-le-mul_right}
 use native.Mathlib.Omega.{arith}
@@ -21,6 +20,7 @@ use Rattle.judge.proofs.Accepted.{Span, span}
 use Rattle.judge.proofs.Judging.{accepted_parts}
 use Rattle.window.proofs.Edges.{window_in_map}
 use Rattle.targetbox.specs.TargetBox.{Natural, cells_of}
+use Rattle.page.specs.declared.Page.{Page}
 use Rattle.groups.specs.Groups.{GroupsFit}
 use Rattle.sheets.specs.Shown.{zero_answers, AnswerFits, line_fits, shown_fits}
 use Rattle.sheets.specs.Drawings.{zero_field, DrawFits}
@@ -67,7 +67,7 @@ window_on_map i f w h some =
     (record { across = f.across.across; wide = f.across.wide; along = f.along.across; tall = f.along.wide })
 
 -- ---- a call at 8 lanes
-module _ (i : FieldInput) (page : List ℕ) (fits : DrawFits i.width i.height page) (eight : i.lanes ≡ 8) where
+module _ (i : FieldInput) (page : Page) (fits : DrawFits i.width i.height page) (eight : i.lanes ≡ 8) where
   -- its resources can be joined
   can_group : Found i → GroupsFit i.width i.height i.cells i.resources zero_answers
   can_group f =

@@ -4,22 +4,23 @@ use mathlib.Core.List.{List}
 use Prim.Native.Nat.{ℕ, ◌≤◌}
 use native.Mathlib.Omega.{arith}
 use lib.ListN.{length, take}
-use Rattle.page.proofs.Putting.{puts_shows}
+use Rattle.page.specs.declared.Page.{Page}
+use Rattle.page.proofs.Putting.{puts_length, puts_shows}
 use Rattle.delivery.specs.Delivery.{Delivers}
 use Rattle.delivery.proofs.Whole as delivery
 use Rattle.sheets.specs.SheetText.{SheetOf, PutsSheet}
 use Rattle.sheets.specs.Promise.{SheetPromise}
 
-module _ {text clean page : List ℕ} {end : ℕ} (p : PutsSheet text clean page end) (room : 200000 ≤ length clean) where
-  pub end_on_page : end ≤ length clean
-  end_on_page = omega (arith, p.puts.short, room)
+module _ {text : List ℕ} {clean page : Page} (p : PutsSheet text clean page) (start : clean.at ≡ 0) (room : 200000 ≤ length clean.bytes.now) where
+  pub end_on_page : page.at ≤ length page.bytes.now
+  end_on_page = omega (arith, p.puts.short, start, room, puts_length p.puts.puts)
 
   -- the sheet is the first part of the page
-  first_part : take end page ≡ p.sheet
-  first_part = puts_shows (record { room = omega (arith, p.puts.puts.ends, end_on_page) }) p.puts.puts
+  first_part : take page.at page.bytes.now ≡ p.sheet
+  first_part = puts_shows start (record { room = omega (arith, p.puts.puts.ends, p.puts.short, start, room) }) p.puts.puts
 
-  pub promised : {out after : List ℕ} {count : ℕ} → Delivers (take end page) out after count → SheetPromise text out after count
-  promised d = record { sheet = p.sheet; is = p.is; short = omega (arith, p.puts.puts.ends, p.puts.short); delivers = rw first_part at d }
+  pub promised : {out after : List ℕ} {count : ℕ} → Delivers (take page.at page.bytes.now) out after count → SheetPromise text out after count
+  promised d = record { sheet = p.sheet; is = p.is; short = omega (arith, p.puts.puts.ends, p.puts.short, start); delivers = rw first_part at d }
 
 -- with room for every sheet, the sheet is written
 pub whole : {text before after : List ℕ} {count : ℕ} → 200000 ≤ length before → SheetPromise text before after count → SheetOf text (take count after) × (count ≤ length after)

@@ -13,11 +13,12 @@ use Rattle.walkgraph.specs.Promise.{FieldAnswer, FieldPromise, refuses, nothing,
 use Rattle.cells.specs.Boxes.{reach}
 use Rattle.rings.specs.Rings.{corners}
 use Rattle.plan.specs.Plans.{input_of}
+use Rattle.page.specs.declared.Page.{Page}
 use Rattle.page.specs.Puts.{Puts, Room}
 use Rattle.page.specs.Lines.{refusal_line}
 use Rattle.page.proofs.Lengths.{refusal_most}
 use Rattle.sheettext.specs.Sheets.{PutsWithin}
-use Rattle.sheets.specs.Shown.{PutsAnswer, puts_line, puts_shown}
+use Rattle.sheets.specs.Shown.{SheetFits, PutsAnswer, puts_line, puts_shown}
 use Rattle.sheets.specs.Drawings.{zero_field, refused_line, drawn, PutsDrawing}
 
 -- ---- what the field call promises of a target box as it was given, not as it is read from its bits
@@ -28,9 +29,9 @@ module _ (w h : ℕ) (cells : List ℕ) (blockers resources : List ℤ) (left to
   as_given a b c d p = rw (to_z-of_z w32 left a, to_z-of_z w32 top b, to_z-of_z w32 right c, to_z-of_z w32 bottom d) at p
 
 -- ---- what the field call answers
-module _ (i : FieldInput) {page done : List ℕ} {end : ℕ} where
+module _ (i : FieldInput) {page done : Page} where
   pub answer_put : {after : Lent} {answer : FieldAnswer} → FieldPromise reach i zero_field after answer →
-      PutsAnswer i.width i.height i.cells i.resources i.targets after.lanes page done end answer → PutsDrawing i page done end
+      PutsAnswer i.width i.height i.cells i.resources i.targets after.lanes page done answer → PutsDrawing i page done
   answer_put (refuses e) (puts_line p) = record { text = _; drawing = refused_line e; puts = p }
   answer_put (nothing ok none) (puts_shown s) =
       record { text = s.text; drawing = drawn (record { left = _; window = _; sweeps = _; promise = nothing ok none; shown = s.shown }); puts = s.puts }
@@ -42,8 +43,8 @@ module _ (number place : ℕ) (h : number ≤ 4294967295) (i : place ≤ 4294967
   line_short : length (refusal_line number place) ≤ 30
   line_short = refusal_most 10 number place (omega arith) (omega arith) (omega arith)
 
-  pub line_room : (page : List ℕ) → 200000 ≤ length page → Room (refusal_line number place) 0 page
+  pub line_room : (page : Page) → SheetFits page → Room (refusal_line number place) page
   line_room page k = record { room = omega (arith, line_short, k) }
 
-  pub line_put : {page done : List ℕ} {end : ℕ} → Puts (refusal_line number place) page 0 done end → PutsWithin 200000 (refusal_line number place) page 0 done end
+  pub line_put : {page done : Page} → Puts (refusal_line number place) page done → PutsWithin 200000 (refusal_line number place) page done
   line_put p = record { puts = p; short = omega (arith, p.ends, line_short) }

@@ -19,7 +19,9 @@ use Rattle.roomlimits.specs.Limits.{in_limits}
 use Rattle.textverdict.specs.Verdicts.{Verdict, accepted, refused, JudgesText}
 use Rattle.textverdict.specs.Verdicts as verdicts
 use Rattle.roomtext.proofs.Buffers.{cells_part, blockers_part, resources_part, targets_left, targets_top, targets_right, targets_bottom}
+use Rattle.page.specs.declared.Page.{Page}
 use Rattle.page.specs.Lines.{refusal_line}
+use Rattle.sheets.specs.Shown.{SheetFits}
 use Rattle.sheets.specs.SheetText.{inside, field_input, SheetOf, too_many_bytes, breaks_form, too_large, room_sheet, PutsSheet, read_input, small, ReadFits, PutsVerdict, puts_line, puts_drawing}
 
 -- a part as it is lent: behind those before it, as many as it has
@@ -114,8 +116,8 @@ module _ {text cells-before cells-after : List ℕ} {numbers-before numbers_afte
   refused_sheet (verdicts.breaks_form h b) = breaks_form h b
   refused_sheet (verdicts.too_large h t e) = too_large h t.is t.formed t.text_is (limits_are t ∙ e)
 
-  pub read_fits : {verdict : Verdict} {page : List ℕ} → JudgesText text cells-before cells-after numbers-before numbers_after verdict → 8192 ≤ length cells-before → 8192 ≤ length numbers-before →
-      length cells-after ≡ length cells-before → length numbers_after ≡ length numbers-before → 200000 ≤ length page → ReadFits verdict cells-after numbers_after page
+  pub read_fits : {verdict : Verdict} {page : Page} → JudgesText text cells-before cells-after numbers-before numbers_after verdict → 8192 ≤ length cells-before → 8192 ≤ length numbers-before →
+      length cells-after ≡ length cells-before → length numbers_after ≡ length numbers-before → SheetFits page → ReadFits verdict cells-after numbers_after page
   unfolding small
   read_fits j p q same alike r = record { limits = in_limits_lem j; cells_room = omega (arith, p, same); numbers_room = omega (arith, q, alike); page_room = r }
     where
@@ -125,8 +127,8 @@ module _ {text cells-before cells-after : List ℕ} {numbers-before numbers_afte
       in_limits_lem (verdicts.too_large h t e) = refl
       in_limits_lem (verdicts.accepts h t e) = e
 
-  pub verdict_put : {verdict : Verdict} {page done : List ℕ} {end : ℕ} → JudgesText text cells-before cells-after numbers-before numbers_after verdict → 8192 ≤ length cells-before → 8192 ≤ length numbers-before →
-      PutsVerdict cells-after numbers_after page done end verdict → PutsSheet text page done end
+  pub verdict_put : {verdict : Verdict} {page done : Page} → JudgesText text cells-before cells-after numbers-before numbers_after verdict → 8192 ≤ length cells-before → 8192 ≤ length numbers-before →
+      PutsVerdict cells-after numbers_after page done verdict → PutsSheet text page done
   verdict_put j p q (puts_line d) = record { sheet = _; is = refused_sheet j; puts = d }
   verdict_put (verdicts.accepts h t e) p q (puts_drawing d) =
       record { sheet = d.text; is = room_sheet h t.is t.formed t.text_is (limits_are t ∙ e) (rw (input_is t h p q) at d.drawing); puts = d.puts }

@@ -10,8 +10,10 @@ use Rattle.roomrows.specs.Rows.{cells_of}
 use Rattle.roomtext.specs.Room.{Room, room_text, Formed, Breaks}
 use Rattle.roomlimits.specs.Limits.{in_limits}
 use Rattle.textverdict.specs.Verdicts.{Verdict, accepted, refused}
+use Rattle.page.specs.declared.Page.{Page}
 use Rattle.page.specs.Lines.{refusal_line}
 use Rattle.sheettext.specs.Sheets.{PutsWithin}
+use Rattle.sheets.specs.Shown.{SheetFits}
 use Rattle.sheets.specs.Drawings.{Drawing, PutsDrawing}
 
 -- ---- the sheet of a text
@@ -37,10 +39,10 @@ pub data SheetOf (text : List ℕ) : List ℕ → Type 0 where
 -- ---- on a page
 
 -- a sheet put on a page
-pub record PutsSheet (text before after : List ℕ) (end : ℕ) : Type 0 where
+pub record PutsSheet (text : List ℕ) (before after : Page) : Type 0 where
   pub sheet : List ℕ
   pub is : SheetOf text sheet
-  pub puts : PutsWithin 200000 sheet before 0 after end
+  pub puts : PutsWithin 200000 sheet before after
 
 -- what stands in the buffers of a text that was read, as the field call is given it: the cells of the map, so many blockers and so many resources, and the target box
 abbrev pub read_input : (width height blockers resources : ℕ) (cells : List ℕ) (numbers : List ℤ) → FieldInput
@@ -53,14 +55,14 @@ small (accepted width height blockers resources) = in_limits width height blocke
 small (refused number place) = true
 
 -- a room that was read is in the limits, it stands there, and the page is long enough
-pub record ReadFits (verdict : Verdict) (cells : List ℕ) (numbers : List ℤ) (page : List ℕ) : Type 0 where
+pub record ReadFits (verdict : Verdict) (cells : List ℕ) (numbers : List ℤ) (page : Page) : Type 0 where
   pub limits : small verdict ≡ true
   pub cells_room : 8192 ≤ length cells
   pub numbers_room : 8192 ≤ length numbers
-  pub page_room : 200000 ≤ length page
+  pub page_room : SheetFits page
 
 -- the line of a refusal, or the sheet of the room that was read, put on a page
-pub data PutsVerdict (cells : List ℕ) (numbers : List ℤ) (before after : List ℕ) (end : ℕ) : Verdict → Type 0 where
-  puts_line : {number place : ℕ} → PutsWithin 200000 (refusal_line number place) before 0 after end → PutsVerdict cells numbers before after end (refused number place)
-  puts_drawing : {width height blockers resources : ℕ} → PutsDrawing (read_input width height blockers resources cells numbers) before after end →
-      PutsVerdict cells numbers before after end (accepted width height blockers resources)
+pub data PutsVerdict (cells : List ℕ) (numbers : List ℤ) (before after : Page) : Verdict → Type 0 where
+  puts_line : {number place : ℕ} → PutsWithin 200000 (refusal_line number place) before after → PutsVerdict cells numbers before after (refused number place)
+  puts_drawing : {width height blockers resources : ℕ} → PutsDrawing (read_input width height blockers resources cells numbers) before after →
+      PutsVerdict cells numbers before after (accepted width height blockers resources)

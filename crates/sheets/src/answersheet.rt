@@ -5,13 +5,11 @@ ghost use Rattle.sheets.specs.Shown.{AnswerFits, PutsAnswer};
 
 use fieldanswer::Answer;
 use fournumbers::Corners;
-use page::lines;
-use sheettext;
-use targetbox;
+use page::{Page, lines};
 
-// Puts the sheet of a room whose field is made, or the line of its refusal, from the page's start on; answers where it ends.
+// Puts the sheet of a room whose field is made, or the line of its refusal.
 pub fn answered(
-    page: &mut [u8],
+    page: &mut Page<'_>,
     width: u32,
     height: u32,
     cells: &[u8],
@@ -19,29 +17,23 @@ pub fn answered(
     targets: Corners,
     found: Answer,
     lanes: &[i16],
-) -> usize
+)
     requires { AnswerFits width height cells.now resources.now (corners_of targets) page.old (answer_of found) }
     ensures { PutsAnswer width height cells.now resources.now (corners_of targets) lanes.now
-        page.old page.new result (answer_of found) }
+        page.old page.new (answer_of found) }
 {
     match found {
-        Answer::Refused { number, place } => {
-            return lines::refusal(page, 0, number, place);
-        }
+        Answer::Refused { number, place } => lines::refusal(page, number, place),
         Answer::Made { window, sweeps } => {
             let mut answers: [u16; 8] = [0; 8];
             let fields = groups::groups(width, height, cells, resources, &mut answers);
             let boxed = targetbox::cells_of(targets);
-            return sheettext::sheet(
-                page,
+            let field = Field {
                 window,
-                sweeps,
-                boxed,
                 lanes,
-                resources.len() / 4,
-                fields,
-                &answers,
-            );
+                resources: resources.len() / 4,
+            };
+            sheettext::sheet(page, field, sweeps, boxed, fields, &answers)
         }
     }
 }

@@ -5,20 +5,21 @@ ghost use Rattle.sheets.specs.Drawings.{DrawFits, PutsDrawing};
 
 use crate::answersheet;
 use fournumbers::Corners;
+use page::Page;
 
-// Puts the sheet of a room, or the line of its refusal, from the page's start on; answers where it ends.
+// Puts the sheet of a room, or the line of its refusal.
 pub fn draw(
-    page: &mut [u8],
+    page: &mut Page<'_>,
     width: u32,
     height: u32,
     cells: &[u8],
     blockers: &[i32],
     resources: &[i32],
     targets: Corners,
-) -> usize
+)
     requires { DrawFits width height page.old }
     ensures { PutsDrawing (input_of width height cells.now 8 blockers.now resources.now (corners_of targets))
-        page.old page.new result }
+        page.old page.new }
 {
     let mut lanes: [i16; 30752] = [0; 30752];
     let mut walk: [u8; 3844] = [0; 3844];
@@ -48,5 +49,5 @@ pub fn draw(
     );
     answersheet::answered(
         page, width, height, cells, resources, targets, found, &lanes,
-    )
+    );
 }

@@ -3,18 +3,16 @@ ghost use Rattle.textverdict.specs.Answers.{verdict_of};
 ghost use Rattle.sheets.specs.SheetText.{ReadFits, PutsVerdict};
 
 use crate::drawing;
-use page::lines;
+use page::{Page, lines};
 use textverdict::Judged;
 
-// Puts the sheet of the room that was read, or the line of its refusal, from the page's start on; answers where it ends.
-pub fn drawn(page: &mut [u8], judged: Judged, cells: &[u8], numbers: &[i32]) -> usize
+// Puts the sheet of the room that was read, or the line of its refusal.
+pub fn drawn(page: &mut Page<'_>, judged: Judged, cells: &[u8], numbers: &[i32])
     requires { ReadFits (verdict_of judged) cells.now numbers.now page.old }
-    ensures { PutsVerdict cells.now numbers.now page.old page.new result (verdict_of judged) }
+    ensures { PutsVerdict cells.now numbers.now page.old page.new (verdict_of judged) }
 {
     match judged {
-        Judged::Refused { number, place } => {
-            return lines::refusal(page, 0, number, place);
-        }
+        Judged::Refused { number, place } => lines::refusal(page, number, place),
         Judged::Accepted {
             width,
             height,
@@ -25,7 +23,7 @@ pub fn drawn(page: &mut [u8], judged: Judged, cells: &[u8], numbers: &[i32]) -> 
             let from = 4 * blockers;
             let to = 4 * count;
             let targets = fournumbers::corners_at(numbers, count);
-            return drawing::draw(
+            drawing::draw(
                 page,
                 width as u32,
                 height as u32,
@@ -33,7 +31,7 @@ pub fn drawn(page: &mut [u8], judged: Judged, cells: &[u8], numbers: &[i32]) -> 
                 &numbers[..from],
                 &numbers[from..to],
                 targets,
-            );
+            )
         }
     }
 }

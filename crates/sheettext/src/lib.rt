@@ -8,24 +8,23 @@ ghost use Rattle.sheettext.specs.Sheets.{sheet_text, SheetRoom};
 
 use cells::boxes::CellBox;
 use page::Page;
-use window::record::Window;
+use targetlines::Field;
 
 // Puts the whole sheet.
 pub fn sheet(
     page: &mut Page<'_>,
-    window: Window,
+    field: Field<'_>,
     sweeps: usize,
     targets: CellBox,
-    lanes: &[i16],
-    resources: usize,
-    fields: usize,
+    groups: usize,
     answers: &[u16],
 )
-    requires { SheetRoom (as_record window) sweeps (box_of targets) resources fields answers.now page.old }
-    ensures { PutsWithin 200000 (sheet_text (as_record window) sweeps (box_of targets) lanes.now resources fields answers.now)
+    requires { SheetRoom (as_record field.window) sweeps (box_of targets) field.resources groups answers.now page.old }
+    ensures { PutsWithin 200000
+        (sheet_text (as_record field.entry.window) sweeps (box_of targets) field.entry.lanes.now field.entry.resources groups answers.now)
         page.old page.new }
 {
-    outerlines::head(page, window, sweeps, targetbox::target_cells(targets));
-    targetlines::rows(page, window, lanes, resources, targets);
-    outerlines::groups(page, fields, answers, resources);
+    outerlines::head(page, field.window, sweeps, targetbox::target_cells(targets));
+    targetlines::rows(page, field, targets);
+    outerlines::groups(page, groups, answers, field.resources);
 }

@@ -9,10 +9,10 @@ pub head-requires : goal.head-requires
 head-requires c = rw c.target_cells.ensures (sheet_head c.requires)
 
 pub rows-requires : goal.rows-requires
-rows-requires c = sheet_targets c.requires c.args.lanes.now (rw c.target_cells.ensures at c.head.ensures)
+rows-requires c = sheet_targets c.requires c.args.field.lanes.now (rw c.target_cells.ensures at c.head.ensures)
 
 pub groups-requires : goal.groups-requires
-groups-requires c = sheet_groups c.requires c.args.lanes.now (rw c.target_cells.ensures at c.head.ensures) c.rows.ensures
+groups-requires c = sheet_groups c.requires c.args.field.lanes.now (rw c.target_cells.ensures at c.head.ensures) c.rows.ensures
 
 pub returns : goal.returns
-returns c = sheet_all c.requires c.args.lanes.now (rw c.target_cells.ensures at c.head.ensures) c.rows.ensures c.groups.ensures
+returns c = sheet_all c.requires c.args.field.lanes.now (rw c.target_cells.ensures at c.head.ensures) c.rows.ensures c.groups.ensures

@@ -8,7 +8,7 @@ use Rattle.targetlines.proofs.Targets.{lines_none, lines_put, lines_room, lines_
 use Rattle.targetlines.proofs.row.Goals as goal
 
 pub loop-x-init : goal.loop-x-init
-loop-x-init c = let a = c.args in rw (lines_none (as_record a.window) a.lanes.now a.resources (box_of a.targets) a.y) (puts_none _)
+loop-x-init c = let a = c.args in rw (lines_none (as_record a.field.window) a.field.lanes.now a.field.resources (box_of a.targets) a.y) (puts_none _)
 
 pub line-requires : goal.line-requires
 line-requires c =
@@ -17,14 +17,14 @@ line-requires c =
     record {
       column = omega (arith, c.requires.box.wide);
       row = c.requires.row;
-      text = room_next (line_at (as_record a.window) a.lanes.now a.resources l.x a.y) l.invariant c.requires.text (lines_room (as_record a.window) a.lanes.now a.resources (box_of a.targets) a.y l.x (omega arith) (omega arith));
+      text = room_next (line_at (as_record a.field.window) a.field.lanes.now a.field.resources l.x a.y) l.invariant c.requires.text (lines_room (as_record a.field.window) a.field.lanes.now a.field.resources (box_of a.targets) a.y l.x (omega arith) (omega arith));
     }
 
 pub loop-x-preserved : goal.loop-x-preserved
 loop-x-preserved c =
     let a = c.args in
     let l = c.loop-x in
-    lines_put (as_record a.window) a.lanes.now a.resources (box_of a.targets) a.y l.x (omega arith) l.invariant c.line.ensures
+    lines_put (as_record a.field.window) a.field.lanes.now a.field.resources (box_of a.targets) a.y l.x (omega arith) l.invariant c.line.ensures
 
 pub returns : goal.returns
 returns c = absurd (omega (arith, c.requires.box.across))
@@ -33,5 +33,5 @@ pub returns-2 : goal.returns-2
 returns-2 c =
     let a = c.args in
     let l = c.loop-x in
-    let put = lines_put (as_record a.window) a.lanes.now a.resources (box_of a.targets) a.y l.x (omega arith) l.invariant c.line.ensures in
-    rw (lines_all (as_record a.window) a.lanes.now a.resources (box_of a.targets) a.y l.x (omega arith)) at put
+    let put = lines_put (as_record a.field.window) a.field.lanes.now a.field.resources (box_of a.targets) a.y l.x (omega arith) l.invariant c.line.ensures in
+    rw (lines_all (as_record a.field.window) a.field.lanes.now a.field.resources (box_of a.targets) a.y l.x (omega arith)) at put

@@ -8,7 +8,7 @@ use Rattle.targetlines.proofs.Targets.{rows_none, rows_put, rows_room, rows_all}
 use Rattle.targetlines.proofs.rows.Goals as goal
 
 pub loop-y-init : goal.loop-y-init
-loop-y-init c = let a = c.args in rw (rows_none (as_record a.window) a.lanes.now a.resources (box_of a.targets)) (puts_none _)
+loop-y-init c = let a = c.args in rw (rows_none (as_record a.field.window) a.field.lanes.now a.field.resources (box_of a.targets)) (puts_none _)
 
 pub row-requires : goal.row-requires
 row-requires c =
@@ -17,14 +17,14 @@ row-requires c =
     record {
       box = c.requires.box;
       row = omega (arith, c.requires.box.tall);
-      text = room_next (row_lines (as_record a.window) a.lanes.now a.resources (box_of a.targets) l.y) l.invariant c.requires.text (rows_room (as_record a.window) a.lanes.now a.resources (box_of a.targets) l.y (omega arith) (omega arith));
+      text = room_next (row_lines (as_record a.field.window) a.field.lanes.now a.field.resources (box_of a.targets) l.y) l.invariant c.requires.text (rows_room (as_record a.field.window) a.field.lanes.now a.field.resources (box_of a.targets) l.y (omega arith) (omega arith));
     }
 
 pub loop-y-preserved : goal.loop-y-preserved
 loop-y-preserved c =
     let a = c.args in
     let l = c.loop-y in
-    rows_put (as_record a.window) a.lanes.now a.resources (box_of a.targets) l.y (omega arith) l.invariant c.row.ensures
+    rows_put (as_record a.field.window) a.field.lanes.now a.field.resources (box_of a.targets) l.y (omega arith) l.invariant c.row.ensures
 
 pub returns : goal.returns
 returns c = absurd (omega (arith, c.requires.box.along))
@@ -33,5 +33,5 @@ pub returns-2 : goal.returns-2
 returns-2 c =
     let a = c.args in
     let l = c.loop-y in
-    let put = rows_put (as_record a.window) a.lanes.now a.resources (box_of a.targets) l.y (omega arith) l.invariant c.row.ensures in
-    rw (rows_all (as_record a.window) a.lanes.now a.resources (box_of a.targets) l.y (omega arith)) at put
+    let put = rows_put (as_record a.field.window) a.field.lanes.now a.field.resources (box_of a.targets) l.y (omega arith) l.invariant c.row.ensures in
+    rw (rows_all (as_record a.field.window) a.field.lanes.now a.field.resources (box_of a.targets) l.y (omega arith)) at put

@@ -6,4 +6,4 @@ use Rattle.targetlines.proofs.Targets.{rows_before}
 use Rattle.targetlines.proofs.rows.Given as goal
 
 abbrev pub invariant-loop-y : goal.invariant-loop-y
-invariant-loop-y l = Puts (rows_before (as_record l.window) l.lanes l.resources (box_of l.targets) l.y) l.initial.page l.page
+invariant-loop-y l = Puts (rows_before (as_record l.field.window) l.field.lanes.now l.field.resources (box_of l.targets) l.y) l.initial.page l.page

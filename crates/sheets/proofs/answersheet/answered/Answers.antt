@@ -1,6 +1,6 @@
 -- `sheets::answersheet::answered`: the answer is a refusal, whose line is put, or the field, whose resources' fields are found and whose sheet is put.
 use native.Mathlib.Omega.{arith}
-use Rattle.walkgraph.specs.Promise.{refusal, made}
+use Rattle.walkgraph.specs.Promise.{refusal}
 use Rattle.window.specs.Windows.{as_record}
 use Rattle.fournumbers.specs.Corners.{corners_of}
 use Rattle.fieldanswer.specs.Answers.{answer_of}
