@@ -6,6 +6,7 @@ ghost use Rattle.make.specs.Makes.{lent, site_call, MakeFits};
 
 use grounds;
 use plan::site::Site;
+use row::visit::Ground;
 use sweep::relax;
 use versions;
 use window::record;
@@ -34,16 +35,13 @@ pub fn make(
     let used = &mut lanes[..record::padded(window) * window.lanes];
     grounds::ground(site, cells, blockers, walk, flags);
     grounds::begin(site, resources, used, walk, rows);
-    relax::relax(
-        window.lanes,
-        record::stride(window),
-        window.height,
-        versions::above(window, sources),
-        used,
+    let ground = Ground {
+        lane_count: window.lanes,
+        stride: record::stride(window),
+        height: window.height,
         flags,
         rows,
-        versions,
-        pulled_down,
-        pulled_up,
-    )
+    };
+    let quiet = versions::above(window, sources);
+    relax::relax(used, versions, pulled_down, pulled_up, ground, quiet)
 }
