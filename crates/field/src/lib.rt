@@ -14,7 +14,7 @@ use make;
 use plan;
 use plan::Lent;
 use refusal::Refusal;
-use window::record;
+use window::record::Window;
 
 // The field of resources around a target box, on a map of walk cells painted with blockers.
 pub fn field(
@@ -52,7 +52,7 @@ pub fn field(
     )?
     else {
         return Ok(Made {
-            window: record::nothing(lanes as usize),
+            window: Window::nothing(lanes as usize),
             sweeps: 0,
         });
     };

@@ -6,6 +6,7 @@ ghost use Rattle.make.specs.Makes.{lent, site_call, MakeFits};
 
 use grounds;
 use plan::site::Site;
+use row::visit::Ground;
 use sweep::relax;
 use versions;
 
@@ -33,16 +34,13 @@ pub fn make(
     let used = &mut lanes[..window.padded() * window.lanes];
     grounds::ground(site, cells, blockers, walk, flags);
     grounds::begin(site, resources, used, walk, rows);
-    relax::relax(
-        window.lanes,
-        window.stride(),
-        window.height,
-        versions::above(window, sources),
-        used,
+    let ground = Ground {
+        lane_count: window.lanes,
+        stride: window.stride(),
+        height: window.height,
         flags,
         rows,
-        versions,
-        pulled_down,
-        pulled_up,
-    )
+    };
+    let quiet = versions::above(window, sources);
+    relax::relax(used, versions, pulled_down, pulled_up, ground, quiet)
 }

@@ -11,9 +11,6 @@ two_strips l n = ⊎_elim (λ e. absurd (n e)) (λ e. e) l
 pub back_fits : {lanes first feeding count cells now bytes : ℕ} → RowFits lanes first feeding count cells bytes → now ≡ cells → BackFits lanes (first + count) count now bytes
 back_fits {lanes} fits e = record { low = omega arith; own = rw e fits.own; flags = fits.flags }
 
-pub past_fits : {lanes first feeding count cells bytes : ℕ} → RowFits lanes first feeding count cells bytes → Fits w64 bytes → Fits w64 (first + count)
-past_fits fits b = omega (arith, fits.flags, b)
-
 module _ {lanes : ℕ} {flag : ℕ → ℕ} {down : Bool} {first feeding count : ℕ} {F G : ℕ → ℕ} {moved : Bool} (out : OutDone lanes flag down first feeding count F G moved) where
   -- the way back after the way out is both ways
   is_both : {H : ℕ → ℕ} {answer : Bool} → BackDone lanes flag (first + count) count G H answer → H ≡ both_row lanes flag down F (first * lanes) (feeding * lanes) first count

@@ -7,6 +7,17 @@ ghost use Rattle.ways.specs.Buffers.{Gates};
 use crate::row;
 use pulls;
 
+// What the sweeps of a run read and never write: the lanes of a cell, the cells of a row with padding, the rows of the window,
+// the flag byte of each cell, and the row intervals, two numbers a row.
+#[derive(Clone, Copy)]
+pub struct Ground<'a> {
+    pub lane_count: usize,
+    pub stride: usize,
+    pub height: usize,
+    pub flags: &'a [u8],
+    pub rows: &'a [u16],
+}
+
 // The row of a sweep's turn, counted with padding.
 pub fn row_at(down: bool, height: usize, turn: usize) -> usize
     requires { (turn < height) × (height + 1 < 2 ^ 64) }
@@ -26,38 +37,36 @@ pub fn feed_at(down: bool, height: usize, turn: usize) -> usize
 // One row: whether it, or a row before it, changed.
 pub fn visit(
     lanes: &mut [i16],
-    flags: &[u8],
-    rows: &[u16],
     versions: &mut [u32],
     pulled: &mut [u32],
+    ground: Ground,
     gates: &[i16; 32],
-    lane_count: usize,
-    stride: usize,
     own: usize,
     feed: usize,
     down: bool,
     fresh: bool,
     changed: bool,
 ) -> bool
-    requires { Gates gates.now × VisitFits lane_count stride own feed rows.now (length lanes.old) (length flags.now) (length versions.old) (length pulled.old) }
-    ensures { Visited (ground_of lane_count stride flags.now rows.now) down fresh own feed
+    requires { Gates gates.now × VisitFits ground.lane_count ground.stride own feed ground.rows.now
+        (length lanes.old) (length ground.flags.now) (length versions.old) (length pulled.old) }
+    ensures { Visited (ground_of ground.entry.lane_count ground.entry.stride ground.entry.flags.now ground.entry.rows.now) down fresh own feed
         (state_of lanes.old versions.old pulled.old changed) (state_of lanes.new versions.new pulled.new result) }
 {
-    let a = usize::from(rows[2 * own - 2]);
-    let b = usize::from(rows[2 * own - 1]);
+    let a = usize::from(ground.rows[2 * own - 2]);
+    let b = usize::from(ground.rows[2 * own - 1]);
     if b <= a {
         return changed;
     }
     if pulls::skips(pulled, own, versions[feed]) {
         return changed;
     }
-    let first = own * stride + a;
-    let feeding = feed * stride + a;
+    let first = own * ground.stride + a;
+    let feeding = feed * ground.stride + a;
     if row::relax(
         lanes,
-        flags,
+        ground.flags,
         gates,
-        lane_count,
+        ground.lane_count,
         first,
         feeding,
         b - a,

@@ -3,38 +3,26 @@ ghost use Rattle.row.specs.Buffers.{ground_of};
 ghost use Rattle.sweep.specs.Relaxes.{RelaxFits, Relaxed};
 
 use crate::run;
+use row::visit::Ground;
 use versions;
 
-// The sweeps over a window of so many lanes a cell, cells a row and rows, with padding, whose first rows, quiet in number, cannot change in the first sweep: how many.
+// The sweeps over a window whose first rows, quiet in number, cannot change in the first sweep: how many.
 pub fn relax(
-    count: usize,
-    stride: usize,
-    height: usize,
-    quiet: usize,
     lanes: &mut [i16],
-    flags: &[u8],
-    rows: &[u16],
     versions: &mut [u32],
     pulled_down: &mut [u32],
     pulled_up: &mut [u32],
+    ground: Ground,
+    quiet: usize,
 ) -> usize
-    requires { RelaxFits count stride height quiet lanes.old flags.now rows.now versions.old pulled_down.old pulled_up.old }
-    ensures { Relaxed (ground_of count stride flags.now rows.now) height quiet
+    requires { RelaxFits ground.lane_count ground.stride ground.height quiet
+        lanes.old ground.flags.now ground.rows.now versions.old pulled_down.old pulled_up.old }
+    ensures { Relaxed (ground_of ground.entry.lane_count ground.entry.stride ground.entry.flags.now ground.entry.rows.now) ground.entry.height quiet
         lanes.old versions.old pulled_down.old pulled_up.old
         lanes.new versions.new pulled_down.new pulled_up.new result }
 {
-    versions::unpulled(versions, pulled_down, pulled_up, height, quiet);
-    let sweeps = run::run(
-        lanes,
-        flags,
-        rows,
-        versions,
-        pulled_down,
-        pulled_up,
-        count,
-        stride,
-        height,
-    );
-    versions::cleared(versions, pulled_down, pulled_up, height);
+    versions::unpulled(versions, pulled_down, pulled_up, ground.height, quiet);
+    let sweeps = run::run(lanes, versions, pulled_down, pulled_up, ground);
+    versions::cleared(versions, pulled_down, pulled_up, ground.height);
     sweeps
 }

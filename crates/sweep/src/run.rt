@@ -6,39 +6,34 @@ ghost use Rattle.sweep.specs.Buffers.{run_of, SweepFits, RunFits, CanRun};
 
 use quietsweep;
 use row::visit;
+use row::visit::Ground;
 use ways::gate;
 
-// One sweep over the rows of a window of height rows: whether a lane changed.
+// One sweep over the rows of a window: whether a lane changed.
 pub fn sweep(
     lanes: &mut [i16],
-    flags: &[u8],
-    rows: &[u16],
     versions: &mut [u32],
     pulled: &mut [u32],
-    lane_count: usize,
-    stride: usize,
-    height: usize,
+    ground: Ground,
     down: bool,
     fresh: bool,
 ) -> bool
-    requires { SweepFits lane_count stride height rows.now (length lanes.old) (length flags.now) (length versions.old) (length pulled.old) }
-    ensures { Turns (ground_of lane_count stride flags.now rows.now) down fresh height
-        (state_of lanes.old versions.old pulled.old false) height (state_of lanes.new versions.new pulled.new result) }
+    requires { SweepFits ground.lane_count ground.stride ground.height ground.rows.now
+        (length lanes.old) (length ground.flags.now) (length versions.old) (length pulled.old) }
+    ensures { Turns (ground_of ground.entry.lane_count ground.entry.stride ground.entry.flags.now ground.entry.rows.now) down fresh ground.entry.height
+        (state_of lanes.old versions.old pulled.old false) ground.entry.height (state_of lanes.new versions.new pulled.new result) }
 {
     let gates = gate::gates();
     let mut changed = false;
-    for turn in 0..height {
+    for turn in 0..ground.height {
         changed = visit::visit(
             lanes,
-            flags,
-            rows,
             versions,
             pulled,
+            ground,
             &gates,
-            lane_count,
-            stride,
-            visit::row_at(down, height, turn),
-            visit::feed_at(down, height, turn),
+            visit::row_at(down, ground.height, turn),
+            visit::feed_at(down, ground.height, turn),
             down,
             fresh,
             changed,
@@ -50,71 +45,41 @@ pub fn sweep(
 // One of the alternating sweeps: the even ones go down, and rows are fresh in number 0.
 fn alternate(
     lanes: &mut [i16],
-    flags: &[u8],
-    rows: &[u16],
     versions: &mut [u32],
     pulled_down: &mut [u32],
     pulled_up: &mut [u32],
-    lane_count: usize,
-    stride: usize,
-    height: usize,
+    ground: Ground,
     number: usize,
 ) -> bool
-    requires { RunFits lane_count stride height rows.now (length lanes.old) (length flags.now) (length versions.old) (length pulled_down.old) (length pulled_up.old) }
-    ensures { OneSweep (ground_of lane_count stride flags.now rows.now) height number
+    requires { RunFits ground.lane_count ground.stride ground.height ground.rows.now
+        (length lanes.old) (length ground.flags.now) (length versions.old) (length pulled_down.old) (length pulled_up.old) }
+    ensures { OneSweep (ground_of ground.entry.lane_count ground.entry.stride ground.entry.flags.now ground.entry.rows.now) ground.entry.height number
         (run_of lanes.old versions.old pulled_down.old pulled_up.old)
         (run_of lanes.new versions.new pulled_down.new pulled_up.new) result }
 {
     if quietsweep::down(number) {
-        return sweep(
-            lanes,
-            flags,
-            rows,
-            versions,
-            pulled_down,
-            lane_count,
-            stride,
-            height,
-            true,
-            number == 0,
-        );
+        return sweep(lanes, versions, pulled_down, ground, true, number == 0);
     }
-    sweep(
-        lanes, flags, rows, versions, pulled_up, lane_count, stride, height, false, false,
-    )
+    sweep(lanes, versions, pulled_up, ground, false, false)
 }
 
 // The alternating sweeps, down first: how many, the quiet one included.
 pub fn run(
     lanes: &mut [i16],
-    flags: &[u8],
-    rows: &[u16],
     versions: &mut [u32],
     pulled_down: &mut [u32],
     pulled_up: &mut [u32],
-    lane_count: usize,
-    stride: usize,
-    height: usize,
+    ground: Ground,
 ) -> usize
-    requires { CanRun lane_count stride height lanes.old flags.now rows.now versions.old pulled_down.old pulled_up.old }
-    ensures { Ended (ground_of lane_count stride flags.now rows.now) height
+    requires { CanRun ground.lane_count ground.stride ground.height
+        lanes.old ground.flags.now ground.rows.now versions.old pulled_down.old pulled_up.old }
+    ensures { Ended (ground_of ground.entry.lane_count ground.entry.stride ground.entry.flags.now ground.entry.rows.now) ground.entry.height
         (run_of lanes.old versions.old pulled_down.old pulled_up.old)
         (run_of lanes.new versions.new pulled_down.new pulled_up.new) result }
 {
     let mut count: usize = 0;
     loop {
-        let changed = alternate(
-            lanes,
-            flags,
-            rows,
-            versions,
-            pulled_down,
-            pulled_up,
-            lane_count,
-            stride,
-            height,
-            count,
-        );
+        let changed = alternate(lanes, versions, pulled_down, pulled_up, ground, count);
         count += 1;
         if quietsweep::ends(changed, count) {
             break count;

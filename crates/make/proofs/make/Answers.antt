@@ -58,16 +58,7 @@ pub stride-requires : goal.stride-requires
 stride-requires c = let g = c.requires.ground.site in (limits _ _ _ _ g.on_map _ g.over).width
 
 pub relax-requires : goal.relax-requires
-relax-requires c = rw (c.stride.ensures, c.above.ensures) (fits (goal.at.relax-requires c).After-begin)
-
-pub shape_of-walk : goal.shape_of-walk
-shape_of-walk c = c.ground.auto.walk
-
-pub shape_of-flags : goal.shape_of-flags
-shape_of-flags c = c.ground.auto.flags
-
-pub shape_of-rows : goal.shape_of-rows
-shape_of-rows c = c.begin.auto.rows
+relax-requires c = rw (c.stride.ensures, c.above-quiet.ensures) (fits (goal.at.relax-requires c).After-begin)
 
 pub returns : goal.returns
 returns c =
@@ -78,4 +69,4 @@ returns c =
     site_made s a.cells.now a.blockers.now a.resources.now before c.requires c.ground.new.walk c.ground.new.flags c.begin.new.rows n c.begin.new.lanes
     c.ground.auto.walk c.ground.auto.flags c.begin.auto.rows (ap (λ (k : ℕ). k * s.window.lanes) c.padded.ensures) c.begin.auto.lanes c.ground.ensures.0 c.ground.ensures.1 c.begin.ensures.0 c.begin.ensures.1
     c.relax.new.lanes c.relax.new.versions c.relax.new.pulled_down c.relax.new.pulled_up c.relax.result
-    (c.relax.auto.lanes ∙ c.begin.auto.lanes) c.relax.auto.versions c.relax.auto.pulled_down c.relax.auto.pulled_up (rw (c.stride.ensures, c.above.ensures) at c.relax.ensures)
+    (c.relax.auto.lanes ∙ c.begin.auto.lanes) c.relax.auto.versions c.relax.auto.pulled_down c.relax.auto.pulled_up (rw (c.stride.ensures, c.above-quiet.ensures) at c.relax.ensures)

@@ -1,12 +1,11 @@
 -- `relax::relax`: the sweeps ended, from the versions before the first to versions that were cleared.
-use mathlib.Core.Path.{◌∙◌}
 use native.Mathlib.Omega.{arith}
 use Rattle.sweep.specs.Relaxes.{Versioned}
 use Rattle.sweep.proofs.relax.relax.Goals.{After-unpulled}
 use Rattle.sweep.proofs.relax.relax.Goals as goal
 
 -- the versions before the first sweep
-versioned : (c : After-unpulled) → let a = c.args in Versioned a.height a.quiet a.versions.now a.pulled_down.now a.pulled_up.now c.unpulled.new.versions c.unpulled.new.pulled_down c.unpulled.new.pulled_up
+versioned : (c : After-unpulled) → let a = c.args in Versioned a.ground.height a.quiet a.versions.now a.pulled_down.now a.pulled_up.now c.unpulled.new.versions c.unpulled.new.pulled_down c.unpulled.new.pulled_up
 versioned c = record { made = c.unpulled.ensures; versions_long = c.unpulled.auto.versions; downs_long = c.unpulled.auto.pulled_down; ups_long = c.unpulled.auto.pulled_up }
 
 pub unpulled-requires : goal.unpulled-requires
@@ -32,18 +31,6 @@ cleared-requires c =
       downs_in = omega (arith, b.downs_in, c.unpulled.auto.pulled_down, c.run-sweeps.auto.pulled_down);
       ups_in = omega (arith, b.ups_in, c.unpulled.auto.pulled_up, c.run-sweeps.auto.pulled_up);
     }
-
-pub shape_of-lanes : goal.shape_of-lanes
-shape_of-lanes c = c.run-sweeps.auto.lanes
-
-pub shape_of-versions : goal.shape_of-versions
-shape_of-versions c = c.cleared.auto.versions ∙ c.run-sweeps.auto.versions ∙ c.unpulled.auto.versions
-
-pub shape_of-pulled_down : goal.shape_of-pulled_down
-shape_of-pulled_down c = c.cleared.auto.pulled_down ∙ c.run-sweeps.auto.pulled_down ∙ c.unpulled.auto.pulled_down
-
-pub shape_of-pulled_up : goal.shape_of-pulled_up
-shape_of-pulled_up c = c.cleared.auto.pulled_up ∙ c.run-sweeps.auto.pulled_up ∙ c.unpulled.auto.pulled_up
 
 pub returns : goal.returns
 returns c =

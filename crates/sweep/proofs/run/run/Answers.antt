@@ -17,9 +17,6 @@ alternate-changed-requires c =
 pub overflow_add-count : goal.overflow_add-count
 overflow_add-count c = omega (arith, c.loop-changed.invariant.4.0.few, c.loop-changed.invariant.4.1.below)
 
-pub ends-requires : goal.ends-requires
-ends-requires c = tt
-
 pub loop-changed-smaller : goal.loop-changed-smaller
 loop-changed-smaller c = omega (arith, c.loop-changed.invariant.4.0.few, c.loop-changed.invariant.4.1.below)
 
@@ -32,18 +29,6 @@ loop-changed-preserved c =
       c.alternate-changed.auto.pulled_up ∙ i.3,
       (i.4.0, run_next i.4.0 i.4.1 c.alternate-changed.ensures c.ends.ensures c.if-ends.false),
     )
-
-pub shape_of-lanes : goal.shape_of-lanes
-shape_of-lanes c = c.alternate-changed.auto.lanes ∙ c.loop-changed.invariant.0
-
-pub shape_of-versions : goal.shape_of-versions
-shape_of-versions c = c.alternate-changed.auto.versions ∙ c.loop-changed.invariant.1
-
-pub shape_of-pulled_down : goal.shape_of-pulled_down
-shape_of-pulled_down c = c.alternate-changed.auto.pulled_down ∙ c.loop-changed.invariant.2
-
-pub shape_of-pulled_up : goal.shape_of-pulled_up
-shape_of-pulled_up c = c.alternate-changed.auto.pulled_up ∙ c.loop-changed.invariant.3
 
 pub returns : goal.returns
 returns c = let i = c.loop-changed.invariant in run_ends i.4.0 i.4.1 c.alternate-changed.ensures c.ends.ensures c.if-ends.true
