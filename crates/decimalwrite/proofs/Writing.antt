@@ -37,6 +37,3 @@ module _ {before after : List ℕ} {at n past : ℕ} {z : ℤ} where
         ends = w.ends ∙ rw e (omega arith);
         content = w.content ∙ rw (e, add-one at);
       }
-
-  pub writes_plain : decimal_of z ≡ decimal_of (pos n) → Writes (pos n) at before after past → Writes z at before after past
-  writes_plain e w = record { ends = w.ends ∙ rw e; content = w.content ∙ rw e }

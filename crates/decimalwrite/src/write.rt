@@ -1,5 +1,5 @@
 // Writing a number into a lent buffer at a place. How long its text is can be asked first.
-ghost use Rattle.std.specs.Prelude.{◌≡◌, ◌+◌, ◌≤◌, pos, nat_abs, length};
+ghost use Rattle.std.specs.Prelude.{◌≡◌, ◌+◌, ◌≤◌, pos, length};
 ghost use Rattle.decimal.specs.Numbers.{decimal_of, Writes};
 
 // How many bytes the text of a number from 0 on has.
@@ -26,21 +26,11 @@ pub fn natural(out: &mut [u8], at: usize, number: u64) -> usize
     last + 1
 }
 
-// The number without its sign.
-fn size(number: i32) -> u64
-    ensures { result ≡ nat_abs number }
-{
-    if number < 0 {
-        return (0 - (number as i64)) as u64;
-    }
-    number as u64
-}
-
 // How many bytes the text of a number has.
 pub fn integer_length(number: i32) -> usize
     ensures { (result ≡ length (decimal_of number)) × (result ≤ 21) }
 {
-    let digits = natural_length(size(number));
+    let digits = natural_length(u64::from(number.unsigned_abs()));
     if number < 0 {
         return digits + 1;
     }
@@ -52,7 +42,7 @@ pub fn integer(out: &mut [u8], at: usize, number: i32) -> usize
     requires { at + length (decimal_of number) ≤ length out.old }
     ensures { Writes number at out.old out.new result }
 {
-    let digits = size(number);
+    let digits = u64::from(number.unsigned_abs());
     if number < 0 {
         out[at] = b'-';
         return natural(out, at + 1, digits);
