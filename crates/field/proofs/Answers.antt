@@ -1,7 +1,5 @@
 -- The field call's promise determines its answer as the code gives it.
-use mathlib.Core.Path.{◌≡◌, refl, sym, ap, ◌∙◌}
-use mathlib.Core.Bool.{cond}
-use lib.Dec.{eqb}
+use mathlib.Core.Path.{◌≡◌, refl, ap}
 use Prim.Native.Nat.{ℕ}
 use Rattle.walkgraph.specs.Buffers.{Lent}
 use Rattle.walkgraph.specs.Reading.{WindowRecord}
@@ -12,39 +10,10 @@ use Rattle.window.specs.declared.record.Window.{Window}
 use Rattle.window.specs.Windows.{as_record}
 use Rattle.std.specs.Prelude.{Result, Ok, Err}
 use Rattle.refusal.specs.declared.Refusal.{Refusal}
-use Rattle.refusal.specs.declared.Refusal.TheVariants.{BadGrid, Lanes, Count, BadResource, Blockers, Targets, Scratch, Access, Text, TooLarge}
 use Rattle.refusal.specs.Table.{number_of, place_of}
+use Rattle.refusal.proofs.Rows.{same_refusal}
 use Rattle.fieldanswer.specs.declared.Made.{Made}
 use Rattle.fieldanswer.specs.Answers.{answer_of}
-
--- the row of the table that has a number and a place
-row : ℕ → ℕ → Refusal
-row n place =
-    cond (eqb n 1) BadGrid
-    (cond (eqb n 2) Lanes
-    (cond (eqb n 3) Count
-    (cond (eqb n 4) (BadResource place)
-    (cond (eqb n 5) Blockers
-    (cond (eqb n 6) Targets
-    (cond (eqb n 7) Scratch
-    (cond (eqb n 8) Access
-    (cond (eqb n 9) (Text place) TooLarge))))))))
-
-row_of : (r : Refusal) → row (number_of r) (place_of r) ≡ r
-unfolding row
-row_of BadGrid = refl
-row_of Lanes = refl
-row_of Count = refl
-row_of (BadResource first) = refl
-row_of Blockers = refl
-row_of Targets = refl
-row_of Scratch = refl
-row_of Access = refl
-row_of (Text line) = refl
-row_of TooLarge = refl
-
-same_row : (r s : Refusal) → number_of r ≡ number_of s → place_of r ≡ place_of s → r ≡ s
-same_row r s e f = sym (row_of r) ∙ rw (e, f) (row_of s)
 
 same_window : (v w : Window) → as_record v ≡ as_record w → v ≡ w
 same_window v w e =
@@ -64,7 +33,7 @@ unfolding answer_of
 same_answer (Err r) (Err s) e =
     let same_number : number_of r ≡ number_of s = cc in
     let same_place : place_of r ≡ place_of s = cc in
-    let same : r ≡ s = same_row r s same_number same_place in
+    let same : r ≡ s = same_refusal r s same_number same_place in
     cc
 same_answer (Err r) (Ok n) e = absurd (cc)
 same_answer (Ok m) (Err s) e = absurd (cc)

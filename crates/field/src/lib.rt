@@ -1,18 +1,20 @@
 // The field call: judges its arguments, then answers with a refusal, with nothing made, or with the field made.
 #![tactic(auto)]
 
+pub mod buffers;
+
 ghost use Rattle.walkgraph.specs.Promise.{FieldPromise};
 ghost use Rattle.cells.specs.Boxes.{reach};
 ghost use Rattle.fournumbers.specs.Corners.{corners_of};
 ghost use Rattle.plan.specs.Plans.{input_of};
-ghost use Rattle.make.specs.Makes.{lent};
+ghost use Rattle.field.specs.Buffers.{lent_of, SameSlices};
 ghost use Rattle.fieldanswer.specs.Answers.{answer_of};
 
+use crate::buffers::Buffers;
 use fieldanswer::Made;
 use fournumbers::Corners;
 use make;
 use plan;
-use plan::Lent;
 use refusal::Refusal;
 use window::record::Window;
 
@@ -25,28 +27,13 @@ pub fn field(
     blockers: &[i32],
     resources: &[i32],
     targets: Corners,
-    lane_values: &mut [i16],
-    walk: &mut [u8],
-    flags: &mut [u8],
-    rows: &mut [u16],
-    versions: &mut [u32],
-    pulled_down: &mut [u32],
-    pulled_up: &mut [u32],
+    buffers: &mut Buffers,
 ) -> Result<Made, Refusal>
-    ensures { FieldPromise reach (input_of width height cells.now lanes blockers.now resources.now (corners_of targets))
-        (lent lane_values.old walk.old flags.old rows.old versions.old pulled_down.old pulled_up.old)
-        (lent lane_values.new walk.new flags.new rows.new versions.new pulled_down.new pulled_up.new)
-        (answer_of result) }
+    ensures promise { FieldPromise reach (input_of width height cells.now lanes blockers.now resources.now (corners_of targets))
+        (lent_of buffers.old) (lent_of buffers.new) (answer_of result) }
+    ensures same_slices { SameSlices buffers.old buffers.new }
 {
-    let lent = Lent {
-        lanes: lane_values.len(),
-        walk: walk.len(),
-        flags: flags.len(),
-        rows: rows.len(),
-        versions: versions.len(),
-        pulled_down: pulled_down.len(),
-        pulled_up: pulled_up.len(),
-    };
+    let lent = buffers.lengths();
     let Some(site) = plan::plan_of(
         width, height, cells, lanes, blockers, resources, targets, lent,
     )?
@@ -62,13 +49,13 @@ pub fn field(
         cells,
         blockers,
         resources,
-        lane_values,
-        walk,
-        flags,
-        rows,
-        versions,
-        pulled_down,
-        pulled_up,
+        buffers.lanes,
+        buffers.walk,
+        buffers.flags,
+        buffers.rows,
+        buffers.versions,
+        buffers.pulled_down,
+        buffers.pulled_up,
     );
     Ok(Made { window, sweeps })
 }

@@ -1,0 +1,2 @@
+-- The seven lent buffers as document 01's.
+pub mod Buffers
