@@ -6,6 +6,7 @@ ghost use Rattle.sheets.specs.Shown.{AnswerFits, PutsAnswer};
 use fieldanswer::Answer;
 use fournumbers::Corners;
 use page::{Page, lines};
+use targetlines::Field;
 
 // Puts the sheet of a room whose field is made, or the line of its refusal.
 pub fn answered(
