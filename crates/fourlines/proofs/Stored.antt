@@ -10,6 +10,7 @@ use lib.ListN.{length, take, drop, replicate, length-replicate, length-append, l
 use lib.Seq.{sets, length-sets, sets-eq, drop-drop}
 use Rattle.textlines.specs.Lines.{text_of}
 use Rattle.roomlines.specs.Fours.{Four, four_line, Signed32, FourFits, AllFit, nothing, more, numbers_of, FourAt, four, no_four, ReadsFour, accepts_four, refuses_four}
+use Rattle.roomlines.specs.Answers.{four_of}
 use Rattle.roomlines.specs.Forms.{BreaksIn, LinesAt, FourLines}
 use Rattle.roomlines.proofs.Spelled.{part_length}
 use Rattle.roomlines.proofs.Parts.{map_append, sets_append}
@@ -20,11 +21,19 @@ use Rattle.fourlines.specs.Storing.{BufferFits, line_up_to, no_line, TakesFour, 
 part_stored : (l vs : List ℤ) (i n : ℕ) → length vs ≡ n → i + n ≤ length l → put_mid i n l vs ≡ sets l i vs
 part_stored l vs i n e h = ap (λ (t : List ℤ). take i l ++ (vs ++ t)) (drop-drop n i l ∙ ap (λ (m : ℕ). drop (i + m) l) (sym e)) ∙ sym (sets-eq vs l i (omega arith) ∙ append_assoc (take i l) vs (drop (i + length vs) l))
 
-pub four_stored : (l written : List ℤ) (place : ℕ) (f : Four) → place + 4 ≤ length l → written ≡ numbers_of (f ∷ []) → put_mid place (place + 4 - place) l written ≡ sets l place (numbers_of (f ∷ []))
+four_numbers : (l : List ℤ) → length l ≡ 4 → l ≡ numbers_of (four_of l ∷ [])
 unfolding numbers_of
-four_stored l written place f h e =
+four_numbers [] h = absurd (omega arith)
+four_numbers (a ∷ []) h = absurd (omega arith)
+four_numbers (a ∷ b ∷ []) h = absurd (omega arith)
+four_numbers (a ∷ b ∷ d ∷ []) h = absurd (omega arith)
+four_numbers (a ∷ b ∷ d ∷ e ∷ []) h = refl
+four_numbers (a ∷ b ∷ d ∷ e ∷ f ∷ l) h = absurd (omega arith)
+
+pub four_stored : (l numbers : List ℤ) (place : ℕ) → length numbers ≡ 4 → place + 4 ≤ length l → put_mid place (place + 4 - place) l numbers ≡ sets l place (numbers_of (four_of numbers ∷ []))
+four_stored l numbers place e h =
     let p : place + 4 - place ≡ 4 = omega arith in
-    rw (p, e) (part_stored l (numbers_of (f ∷ [])) place 4 refl h)
+    rw p (part_stored l numbers place 4 e h ∙ ap (sets l place) (four_numbers numbers e))
 
 -- ---- rectangles in a list
 pub fit_append : {fs gs : List Four} → AllFit fs → AllFit gs → AllFit (fs ++ gs)

@@ -5,7 +5,6 @@ ghost use Rattle.fourlines.specs.Storing.{BufferFits, TakesFour, TakesFours};
 ghost use Rattle.fourlines.specs.Answers.{line_taken, lines_found};
 
 use reader;
-use roomlines::fours::FoundFour;
 use textlines::broken::Broken;
 
 // Reads a line of four numbers and stores them from a place on. Answers the place after the line.
@@ -13,11 +12,8 @@ fn take(text: &[u8], at: usize, numbers: &mut [i32], place: usize) -> Option<usi
     requires { BufferFits text.now at numbers.old place }
     ensures { TakesFour text.now at place numbers.old numbers.new (line_taken result) }
 {
-    let found = reader::four_at(text, at);
-    let FoundFour::Four(left, top, right, bottom, past) = found else {
-        return None;
-    };
-    numbers[place..place + 4].copy_from_slice(&[left, top, right, bottom]);
+    let (four, past) = reader::four_at(text, at)?;
+    numbers[place..place + 4].copy_from_slice(&four);
     Some(past)
 }
 

@@ -8,7 +8,6 @@ ghost use Rattle.sections.specs.Answers.{section_found};
 
 use fourlines;
 use reader;
-use roomlines::counts::FoundCount;
 use textlines::broken::Broken;
 
 // Reads a section, its count and then so many lines of four numbers, and stores these. Answers the count and the place after the section.
@@ -24,9 +23,7 @@ pub fn section(
     ensures { TakesSection lowest highest text.now at place numbers.old numbers.new (section_found result) }
 {
     let number = reader::count_at(text, at, lowest, highest);
-    let FoundCount::Count(count, first) = number else {
-        return Err(Broken { passed: 0 });
-    };
+    let (count, first) = number.ok_or(Broken { passed: 0 })?;
     let lines = fourlines::fours(text, first, count, numbers, place);
     let past = lines.map_err(|broken| broken.after(1))?;
     Ok((count, past))
