@@ -6,7 +6,6 @@ ghost use Rattle.roomgrid.specs.Grids.{TakesGrid};
 ghost use Rattle.roomgrid.specs.Answers.{grid_found};
 
 use reader;
-use roomlines::counts::FoundCount;
 use roomrows;
 use textlines::broken::Broken;
 
@@ -24,9 +23,7 @@ pub fn grid(text: &[u8], at: usize, cells: &mut [u8]) -> Result<Map, Broken>
     ensures { TakesGrid text.now at cells.old cells.new (grid_found result) }
 {
     let number = reader::count_at(text, at, 1, 2147483647);
-    let FoundCount::Count(height, first) = number else {
-        return Err(Broken { passed: 0 });
-    };
+    let (height, first) = number.ok_or(Broken { passed: 0 })?;
     let lines = roomrows::rows(text, first, height, cells);
     let (width, past) = lines.map_err(|broken| broken.after(1))?;
     Ok(Map {
