@@ -26,7 +26,7 @@ refusal-requires c = line_room _ _ (omega arith) (omega arith) _ c.requires.page
 pub returns-in-Err : goal.returns-in-Err
 unfolding verdict_of
 returns-in-Err c =
-    rw c.in-Err.is (puts_line (line_put _ _ (omega arith) (omega arith) c.refusal.ensures))
+    rw c.in-Err.is (puts_line (rw (c.number.ensures, c.place.ensures) at (line_put c.number.result c.place.result (omega arith) (omega arith) c.refusal.ensures)))
 
 pub overflow_add-count : goal.overflow_add-count
 overflow_add-count c = rectangles_few (room (goal.at.overflow_add-count c).In-Ok (read (goal.at.overflow_add-count c).In-Ok))
@@ -40,14 +40,14 @@ overflow_mul-to c = resources_end (room (goal.at.overflow_mul-to c).In-Ok (read 
 pub corners_at-targets-requires : goal.corners_at-targets-requires
 corners_at-targets-requires c = box_inside (room (goal.at.corners_at-targets-requires c).In-Ok (read (goal.at.corners_at-targets-requires c).In-Ok)) c.args.numbers.now (read (goal.at.corners_at-targets-requires c).In-Ok).numbers_room
 
-pub overflow_cast-width : goal.overflow_cast-width
-overflow_cast-width c = columns_fit (room (goal.at.overflow_cast-width c).In-Ok (read (goal.at.overflow_cast-width c).In-Ok))
+pub overflow_cast-size : goal.overflow_cast-size
+overflow_cast-size c = columns_fit (room (goal.at.overflow_cast-size c).In-Ok (read (goal.at.overflow_cast-size c).In-Ok))
 
-pub overflow_cast-height : goal.overflow_cast-height
-overflow_cast-height c = rows_fit (room (goal.at.overflow_cast-height c).In-Ok (read (goal.at.overflow_cast-height c).In-Ok))
+pub overflow_cast-size-in-Ok : goal.overflow_cast-size-in-Ok
+overflow_cast-size-in-Ok c = rows_fit (room (goal.at.overflow_cast-size-in-Ok c).In-Ok (read (goal.at.overflow_cast-size-in-Ok c).In-Ok))
 
-pub overflow_mul-width : goal.overflow_mul-width
-overflow_mul-width c = record { fits = omega (arith, read_area (room (goal.at.overflow_mul-width c).In-Ok (read (goal.at.overflow_mul-width c).In-Ok))) }
+pub overflow_mul-size : goal.overflow_mul-size
+overflow_mul-size c = record { fits = omega (arith, read_area (room (goal.at.overflow_mul-size c).In-Ok (read (goal.at.overflow_mul-size c).In-Ok))) }
 
 pub slice_bounds-draw-end : goal.slice_bounds-draw-end
 slice_bounds-draw-end c =
