@@ -11,7 +11,8 @@ use Rattle.cells.specs.declared.boxes.CellBox.{CellBox}
 use Rattle.cells.specs.Boxes.{box_of}
 use Rattle.rings.specs.Rings.{Accepted}
 use Rattle.judge.proofs.Judging.{refuses, passes}
-use Rattle.countanswer.specs.declared.Answer.{Answer}
+use Rattle.std.proofs.Common.{Result}
+use Rattle.refusal.specs.declared.Refusal.{Refusal}
 use Rattle.countanswer.specs.Answers.{listed_of}
 use Rattle.ringrows.specs.Rows.{ring_places}
 use Rattle.ringanswer.specs.Answers.{RingListed}
@@ -30,5 +31,5 @@ module _ (w h : ℕ) (cells : List ℕ) (r : Rectangle) where
 
   -- ---- a resource that is not refused: what is listed of its ring are its access cells
   module _ (good_grid : bad_grid w h cells ≡ false) (good : bad_resource w h r ≡ false) (ring core : CellBox) (e : Accepted w h r ring core) where
-    pub ring_answered : {before after : List ℕ} {a : Answer} → RingListed (ring_places cells w (box_of ring) (box_of core)) before after a → AccessPromise w h cells r before after (listed_of a)
+    pub ring_answered : {before after : List ℕ} {a : Result ℕ Refusal} → RingListed (ring_places cells w (box_of ring) (box_of core)) before after a → AccessPromise w h cells r before after (listed_of a)
     ring_answered l = answered w h cells r good_grid good (rw (found_access w h cells r good_grid good ring core e) at l)

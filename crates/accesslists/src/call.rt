@@ -4,9 +4,8 @@ ghost use Rattle.manyrectangles.specs.Listing.{lent};
 ghost use Rattle.countanswer.specs.Answers.{listed_of};
 
 use crate::order;
-use countanswer::Answer;
-use judge::verdict::Verdict;
 use rectanglelists;
+use refusal::Refusal;
 
 // The access cells of many rectangles: the indices of those of the first, then of the next, and for each how many stand before the end of its own; or a refusal, and nothing is written.
 pub fn access_lists(
@@ -16,21 +15,17 @@ pub fn access_lists(
     rectangles: &[i32],
     indices: &mut [u32],
     ends: &mut [u32],
-) -> Answer
+) -> Result<usize, Refusal>
     ensures { AccessListsPromise width height cells.now rectangles.now
         (lent indices.old ends.old) (lent indices.new ends.new) (listed_of result) }
 {
-    let verdict = order::judged(width, height, cells, rectangles, indices.len(), ends.len());
-    if let Verdict::Refused { number, place } = verdict {
-        return Answer::Refused { number, place };
-    }
-    let count = rectanglelists::list_all(
+    order::judged(width, height, cells, rectangles, indices.len(), ends.len())?;
+    Ok(rectanglelists::list_all(
         cells,
         rectangles,
         width as usize,
         height as usize,
         indices,
         ends,
-    );
-    Answer::Counted { count }
+    ))
 }

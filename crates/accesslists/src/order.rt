@@ -5,9 +5,9 @@ ghost use Rattle.listspromise.specs.AccessListsPromise.{lists_verdict};
 
 use badgrid;
 use judge::numbers;
-use judge::verdict::Verdict;
 use listspromise;
 use manyrectangles::all;
+use refusal::Refusal;
 use rings::ring;
 
 // The verdict on a call, by what it is given and the lengths of what it is lent.
@@ -18,37 +18,25 @@ pub fn judged(
     rectangles: &[i32],
     indices: usize,
     ends: usize,
-) -> Verdict
+) -> Result<(), Refusal>
     ensures { verdict_of result ≡ lists_verdict width height cells.now rectangles.now indices ends }
 {
     if !badgrid::grid_ok(width, height, cells) {
-        return Verdict::Refused {
-            number: 1,
-            place: 0,
-        };
+        return Err(Refusal::BadGrid);
     }
     if !numbers::fours_ok(512, rectangles) {
-        return Verdict::Refused {
-            number: 3,
-            place: 0,
-        };
+        return Err(Refusal::Count);
     }
     let columns = width as usize;
     let rows = height as usize;
     let good = ring::accepted(rectangles, columns, rows);
     let count = rectangles.len() / 4;
     if good < count {
-        return Verdict::Refused {
-            number: 4,
-            place: good as u32,
-        };
+        return Err(Refusal::BadResource { first: good as u32 });
     }
     let listed = all::count_all(cells, rectangles, columns, rows);
     if !listspromise::room_ok(listed, count, indices, ends) {
-        return Verdict::Refused {
-            number: 7,
-            place: 0,
-        };
+        return Err(Refusal::Scratch);
     }
-    Verdict::Accepted
+    Ok(())
 }

@@ -1,56 +1,22 @@
--- The ends of the lists of access cells and their indices, as loops pass them, and what is known where none falls.
-use mathlib.Core.Path.{◌≡◌}
+-- The ends of the lists of access cells and their indices, as the library's methods test them, and what is known where none falls.
+use mathlib.Core.Path.{◌≡◌, refl, sym}
 use mathlib.Core.Bool.{Bool, true, false, not, ◌&&◌, not-not}
 use mathlib.Core.List.{List, [], ◌∷◌}
-use Prim.Native.Nat.{ℕ, zero, suc, ◌+◌, ◌≤◌, ◌<◌}
+use Prim.Native.Nat.{ℕ, zero, suc, ◌+◌, ◌-◌, ◌≤◌, ◌<◌}
 use native.Mathlib.Numerals.{add-one}
 use native.Mathlib.Omega.{arith}
-use lib.ListN.{length, get_or, drop, drop_of_length-le}
-use lib.Seq.{drop-cons}
+use lib.ListN.{length, get_or}
 use lib.Dec.{leb, ltb, eqb}
-use borrow.Author.Tests.{leb-true, le-leb, lt-leb}
+use borrow.Author.Tests.{leb-true, le-leb}
 use Rattle.walkgraph.specs.Refusals.{all, never_fall, last_end, bad_access}
 use Rattle.walkgraph.specs.FieldsPromise.{start_of}
 use Rattle.cells.proofs.Bools.{both}
-
--- ---- `last` is the end before end k
-module _ (ends : List ℕ) (last k : ℕ) where
-  -- the next end is not below it: it is the last one now
-  pub end_passed : k < length ends → last ≤ get_or ends k 0 → never_fall (get_or ends k 0) (drop (k + 1) ends) ≡ never_fall last (drop k ends)
-  unfolding never_fall
-  end_passed i h = rw (drop-cons ends k 0 i, add-one k, le-leb last (get_or ends k 0) h)
-
-  pub last_passed : k < length ends → last_end (get_or ends k 0) (drop (k + 1) ends) ≡ last_end last (drop k ends)
-  unfolding last_end
-  last_passed i = rw (drop-cons ends k 0 i, add-one k)
-
-  -- the next end is below it
-  pub end_falls : k < length ends → get_or ends k 0 < last → never_fall last (drop k ends) ≡ false
-  unfolding never_fall
-  end_falls i h = rw (drop-cons ends k 0 i, lt-leb last (get_or ends k 0) h)
-
-  -- there is none left
-  pub ends_passed : length ends ≤ k → never_fall last (drop k ends) ≡ true
-  unfolding never_fall
-  ends_passed i = rw (drop_of_length-le ends i)
-
-  pub last_end_lem : length ends ≤ k → last_end last (drop k ends) ≡ last
-  unfolding last_end
-  last_end_lem i = rw (drop_of_length-le ends i)
-
--- ---- a test of every entry, from entry k on
-module _ (test : ℕ → Bool) (l : List ℕ) (k : ℕ) where
-  pub entry_passes : k < length l → test (get_or l k 0) ≡ true → all test (drop (k + 1) l) ≡ all test (drop k l)
-  unfolding all
-  entry_passes i e = rw (drop-cons l k 0 i, add-one k, e)
-
-  pub entry_fails : k < length l → test (get_or l k 0) ≡ false → all test (drop k l) ≡ false
-  unfolding all
-  entry_fails i e = rw (drop-cons l k 0 i, e)
-
-  pub entries_pass : length l ≤ k → all test (drop k l) ≡ true
-  unfolding all
-  entries_pass i = rw (drop_of_length-le l i)
+use Rattle.std.specs.Bool.{MatchBool}
+use Rattle.std.specs.List.{list_all, IsAllAdjacentAnswer}
+use Rattle.std.specs.List.Sorted.{IsNonDecreasing}
+use Rattle.std.specs.Ordering.{nat_cmp, is_le, is_some_and}
+use Rattle.std.proofs.Common.{Some}
+use Rattle.std.proofs.lemmas.List.Sorted.{non_decreasing_from_is_sorted}
 
 -- the two tests of lists, in the code's order
 pub good_lists : (cells : ℕ) (indices ends : List ℕ) →
@@ -91,3 +57,37 @@ pub ends_rise : (ends : List ℕ) → never_fall 0 ends ≡ true → (r : ℕ) �
 unfolding start_of
 ends_rise ends e zero h = omega arith
 ends_rise ends e (suc r) h = rise_from 0 ends e r h
+
+-- ---- as the library's methods test them
+pub all_by_chain : (test : ℕ → Bool) (l : List ℕ) → list_all test l ≡ all test l
+unfolding all
+all_by_chain test [] = refl
+all_by_chain test (a ∷ l) = rw (all_by_chain test l) refl
+
+sorted_never_fall : (before : ℕ) (ends : List ℕ) → (before ≤ get_or ends 0 before) → ((k d : ℕ) → suc k < length ends → get_or ends k d ≤ get_or ends (suc k) d) → never_fall before ends ≡ true
+unfolding never_fall
+sorted_never_fall before [] first rise = refl
+sorted_never_fall before (end ∷ []) first rise = rw (le-leb before end first) refl
+sorted_never_fall before (end ∷ next ∷ ends) first rise =
+    rw (le-leb before end first) (sorted_never_fall end (next ∷ ends) (rise 0 0 (omega arith)) (λ k d h. rise (suc k) d (omega arith)))
+
+sorted_cases : (ends : List ℕ) (sorted : Bool) → MatchBool sorted (IsNonDecreasing ends) ((k : ℕ) × (k + 1 < length ends) × ((d : ℕ) → get_or ends (k + 1) d < get_or ends k d)) → sorted ≡ never_fall 0 ends
+sorted_cases ends true rise = sym (sorted_never_fall 0 ends (omega arith) (λ k d h. rise k (suc k) d (omega arith) h))
+sorted_cases ends false falls =
+    elim (never_fall 0 ends) as (λ b. never_fall 0 ends ≡ b → false ≡ b) [
+      | true ↦ λ e. absurd (omega (arith, rise_from 0 ends e falls.0 (omega (arith, falls.1)), rw (add-one falls.0) at (falls.2 0)))
+      | false ↦ λ e. refl
+    ] refl
+
+pub sorted_ends : (ends : List ℕ) (sorted : Bool) → IsAllAdjacentAnswer (λ x y b. is_some_and is_le (Some (nat_cmp x y)) ≡ b) ends sorted → sorted ≡ never_fall 0 ends
+sorted_ends ends sorted answer = sorted_cases ends sorted (non_decreasing_from_is_sorted ends sorted answer)
+
+last_from : (before : ℕ) (ends : List ℕ) → last_end before ends ≡ get_or (before ∷ ends) (length ends) 0
+unfolding last_end
+last_from before [] = refl
+last_from before (end ∷ ends) = last_from end ends
+
+pub last_end_at : (ends : List ℕ) → last_end 0 ends ≡ get_or ends (length ends - 1) 0
+unfolding last_end
+last_end_at [] = refl
+last_end_at (end ∷ ends) = let e : length (end ∷ ends) - 1 ≡ length ends = omega arith in rw e (last_from end ends)

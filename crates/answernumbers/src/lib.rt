@@ -5,7 +5,8 @@ ghost use Rattle.std.specs.Prelude.{◌≡◌};
 ghost use Rattle.fieldanswer.specs.Answers.{answer_of};
 ghost use Rattle.answernumbers.specs.Numbers.{numbers_of, InU32};
 
-use fieldanswer;
+use fieldanswer::Made;
+use refusal::Refusal;
 
 // What a field call leads to. Where it is accepted, number and place are 0, and the window with its lanes and the
 // sweep count follow. Where it is refused, number and place are the table's, and the rest is 0.
@@ -23,14 +24,15 @@ pub struct FieldAnswer {
 }
 
 // The eight numbers of a field call's answer.
-pub fn field_numbers(answer: fieldanswer::Answer) -> FieldAnswer
+#[tactic(auto, unfolding(crate::specs::Numbers::numbers_of, crate::specs::Numbers::InU32, fieldanswer::specs::Answers::answer_of))]
+pub fn field_numbers(answer: Result<Made, Refusal>) -> FieldAnswer
     requires { InU32 (answer_of answer) }
     ensures { result ≡ numbers_of (answer_of answer) }
 {
     match answer {
-        fieldanswer::Answer::Refused { number, place } => FieldAnswer {
-            number,
-            place,
+        Err(refusal) => FieldAnswer {
+            number: refusal.number(),
+            place: refusal.place(),
             left: 0,
             top: 0,
             width: 0,
@@ -38,7 +40,7 @@ pub fn field_numbers(answer: fieldanswer::Answer) -> FieldAnswer
             lanes: 0,
             sweeps: 0,
         },
-        fieldanswer::Answer::Made { window, sweeps } => FieldAnswer {
+        Ok(Made { window, sweeps }) => FieldAnswer {
             number: 0,
             place: 0,
             left: window.left as u32,

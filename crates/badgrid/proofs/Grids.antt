@@ -11,6 +11,7 @@ use borrow.Author.Tests.{le-leb, lt-leb}
 use Rattle.walkgraph.specs.Refusals.{bad_grid, all}
 use Rattle.walkgraph.proofs.Tests.{by_cases, leb_eq}
 use Rattle.badgrid.specs.Greatest.{greatest}
+use Rattle.std.specs.List.{fold}
 use Rattle.badgrid.specs.Grids.{in_limits}
 
 -- no byte is above it
@@ -28,6 +29,15 @@ all_small n (b ∷ l) =
     by_cases (dec_le b n)
     (λ h. rw (le-leb b n h, all_small n l) (leb_eq (greatest l) n (max b (greatest l)) n (λ i. omega arith) (λ i. omega arith)))
     (λ h. rw (lt-leb b n (omega arith)) (sym (lt-leb (max b (greatest l)) n (omega arith))))
+
+-- the greater of two bytes, over all of them
+fold_from : (high : ℕ) (cells : List ℕ) → fold max high cells ≡ max high (greatest cells)
+unfolding greatest
+fold_from high [] = omega arith
+fold_from high (byte ∷ cells) = omega (arith, fold_from (max high byte) cells)
+
+pub greatest_by_fold : (cells : List ℕ) → fold max 0 cells ≡ greatest cells
+greatest_by_fold cells = omega (arith, fold_from 0 cells)
 
 -- the four tests of a grid, in the code's order
 pub good_grid : (w h : ℕ) (cells : List ℕ) → not (bad_grid w h cells) ≡ (in_limits w && in_limits h && eqb (length cells) (w * h) && leb (greatest cells) 1)

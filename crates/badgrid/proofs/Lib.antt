@@ -1,4 +1,3 @@
 -- The laws that the proofs of this crate cite, and what is known of a grid that is not refused.
-pub mod Passed
 pub mod Grids
 pub mod Accepted

@@ -1,9 +1,8 @@
 -- Document 01's numbers for each case of an answer that counts, and when they are u32s.
-use Rattle.std.specs.Prelude.{ℕ, ◌≤◌}
+use Rattle.std.specs.Prelude.{ℕ, ◌≤◌, Result, Ok, Err}
 use Rattle.walkgraph.specs.AccessPromise as access
 use Rattle.walkgraph.specs.FieldsPromise as fields
-use Rattle.countanswer.specs.declared.Answer.{Answer}
-use Rattle.countanswer.specs.declared.Answer.TheVariants.{Refused, Counted}
+use Rattle.refusal.specs.declared.Refusal.{Refusal}
 use Rattle.countanswer.specs.declared.CountAnswer.{CountAnswer}
 
 -- "A refusal returns number and place"; what it does not have is 0
@@ -25,6 +24,6 @@ joined_numbers (fields.refusal number place) = refused_numbers number place
 joined_numbers (fields.joined count) = counted_numbers count
 
 -- an answer whose numbers are u32s; those of a refusal are from the start
-unfoldable pub InU32 : Answer → Type 0
-InU32 (Refused number place) = Unit {0}
-InU32 (Counted count) = count ≤ 4294967295
+unfoldable pub InU32 : Result ℕ Refusal → Type 0
+InU32 (Err refusal) = Unit {0}
+InU32 (Ok count) = count ≤ 4294967295

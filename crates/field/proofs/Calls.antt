@@ -1,13 +1,11 @@
 -- The field call's promise from its plan: the call is refused, there is nothing to make, or the field is made at a site.
 use mathlib.Core.Path.{◌≡◌, sym, ◌∙◌, subst}
-use mathlib.Core.Logic.{◌⊎◌, ⊎_elim}
 use mathlib.Core.Bool.{Bool, true, false, ◌&&◌}
 use Prim.Native.Nat.{ℕ, ◌+◌, ◌*◌, ◌≤◌}
 use native.Mathlib.Nat.{mul_comm}
 use native.Mathlib.Omega.{arith}
 use lib.ListN.{length}
 use lib.Dec.{T, leb, leb→le}
-use denote.Enum.Declared.{tag_of}
 use Rattle.walkgraph.specs.Buffers.{Call, Lent, FieldMade}
 use Rattle.walkgraph.specs.Reading.{no_window}
 use Rattle.walkgraph.specs.Refusals.{FieldInput, call_of}
@@ -18,14 +16,13 @@ use Rattle.window.specs.declared.record.Window.{Window}
 use Rattle.window.specs.Windows.{as_record}
 use Rattle.window.specs.Fills.{AreBits}
 use Rattle.plan.specs.declared.Lent as plan
-use Rattle.plan.specs.contracts.Plan.{the_type}
-use Rattle.plan.specs.declared.Plan.{Plan}
-use Rattle.plan.specs.declared.Plan.TheVariants.{Refused, Nothing, Make}
+use Rattle.std.specs.Prelude.{Some, None, Ok, Err}
+use Rattle.refusal.specs.declared.Refusal.{Refusal}
+use Rattle.refusal.specs.Table.{number_of, place_of}
 use Rattle.plan.specs.declared.site.Site.{Site}
 use Rattle.plan.specs.Plans.{enough, Lengths, ToMake, PlanOf}
 use Rattle.plan.proofs.Plans.{in_limits_lem, record_is}
 use Rattle.make.specs.Makes.{site_call, MakeFits}
-use Rattle.fieldanswer.specs.Answers.{unmade_answer}
 
 -- the lengths that a window needs
 pub record Roomy (w : Window) (l : plan.Lent) : Type 0 where
@@ -64,21 +61,15 @@ roomy w l t =
     }
 
 module _ (i : FieldInput) (lengths : plan.Lent) (before : Lent) (long : Lengths lengths before) where
-  call_refused : {number place : ℕ} → PlanOf i lengths (Refused number place) → FieldPromise reach i before before (refusal number place)
+  pub call_refused : (row : Refusal) → PlanOf i lengths (Err row) → FieldPromise reach i before before (refusal (number_of row) (place_of row))
   unfolding PlanOf
-  call_refused p = refuses (p before long)
+  call_refused row p = refuses (p before long)
 
-  call_nothing : PlanOf i lengths Nothing → FieldPromise reach i before before (made (no_window i.lanes) 0)
+  pub call_nothing : PlanOf i lengths (Ok None) → FieldPromise reach i before before (made (no_window i.lanes) 0)
   unfolding PlanOf
   call_nothing p = nothing (p.judged before long) p.none
 
-  pub call_unmade : (p : Plan) → (tag_of the_type p ≡ 0) ⊎ (tag_of the_type p ≡ 1) → PlanOf i lengths p → FieldPromise reach i before before (unmade_answer p i.lanes)
-  unfolding unmade_answer
-  call_unmade (Refused number place) h p = call_refused p
-  call_unmade Nothing h p = call_nothing p
-  call_unmade (Make s) h p = absurd (⊎_elim (λ e. omega (arith, e)) (λ e. omega (arith, e)) h)
-
-  module _ (s : Site) (p : PlanOf i lengths (Make s)) where
+  module _ (s : Site) (p : PlanOf i lengths (Ok (Some s))) where
     to_make : ToMake i lengths s
     unfolding PlanOf
     to_make = p

@@ -3,16 +3,18 @@
 
 ghost use Rattle.walkgraph.specs.Promise.{FieldPromise};
 ghost use Rattle.cells.specs.Boxes.{reach};
-ghost use Rattle.rings.specs.Rings.{corners};
+ghost use Rattle.fournumbers.specs.Corners.{corners_of};
 ghost use Rattle.plan.specs.Plans.{input_of};
 ghost use Rattle.make.specs.Makes.{lent};
 ghost use Rattle.fieldanswer.specs.Answers.{answer_of};
 
-use fieldanswer;
-use fieldanswer::Answer;
+use fieldanswer::Made;
+use fournumbers::Corners;
 use make;
 use plan;
-use plan::{Lent, Plan};
+use plan::Lent;
+use refusal::Refusal;
+use window::record;
 
 // The field of resources around a target box, on a map of walk cells painted with blockers.
 pub fn field(
@@ -22,10 +24,7 @@ pub fn field(
     lanes: u32,
     blockers: &[i32],
     resources: &[i32],
-    left: i32,
-    top: i32,
-    right: i32,
-    bottom: i32,
+    targets: Corners,
     lane_values: &mut [i16],
     walk: &mut [u8],
     flags: &mut [u8],
@@ -33,8 +32,8 @@ pub fn field(
     versions: &mut [u32],
     pulled_down: &mut [u32],
     pulled_up: &mut [u32],
-) -> Answer
-    ensures { FieldPromise reach (input_of width height cells.now lanes blockers.now resources.now (corners left top right bottom))
+) -> Result<Made, Refusal>
+    ensures { FieldPromise reach (input_of width height cells.now lanes blockers.now resources.now (corners_of targets))
         (lent lane_values.old walk.old flags.old rows.old versions.old pulled_down.old pulled_up.old)
         (lent lane_values.new walk.new flags.new rows.new versions.new pulled_down.new pulled_up.new)
         (answer_of result) }
@@ -48,11 +47,14 @@ pub fn field(
         pulled_down: pulled_down.len(),
         pulled_up: pulled_up.len(),
     };
-    let found = plan::plan_of(
-        width, height, cells, lanes, blockers, resources, left, top, right, bottom, lent,
-    );
-    let Plan::Make(site) = found else {
-        return fieldanswer::unmade(found, lanes as usize);
+    let Some(site) = plan::plan_of(
+        width, height, cells, lanes, blockers, resources, targets, lent,
+    )?
+    else {
+        return Ok(Made {
+            window: record::nothing(lanes as usize),
+            sweeps: 0,
+        });
     };
     let window = site.window;
     let sweeps = make::make(
@@ -68,5 +70,5 @@ pub fn field(
         pulled_down,
         pulled_up,
     );
-    fieldanswer::made(window, sweeps)
+    Ok(Made { window, sweeps })
 }

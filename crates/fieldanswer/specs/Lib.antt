@@ -1,2 +1,2 @@
--- The field call's answer as document 01's, and what it is where no field is made.
+-- The field call's answer as document 01's.
 pub mod Answers

@@ -4,11 +4,9 @@ ghost use Rattle.seeds.specs.Sown.{input_of};
 ghost use Rattle.usedparts.specs.Lent.{lent};
 ghost use Rattle.countanswer.specs.Answers.{joined_of};
 
-use countanswer;
-use countanswer::Answer;
 use fieldsrefusals;
 use fieldsrefusals::Lent;
-use judge::verdict::Verdict;
+use refusal::Refusal;
 use usedparts;
 
 // Fields of resources: the number of each resource's field, by its smallest member, and how many fields there are; or a refusal, and nothing is written.
@@ -23,7 +21,7 @@ pub fn fields(
     parents: &mut [u16],
     ranks: &mut [u8],
     answers: &mut [u16],
-) -> Answer
+) -> Result<usize, Refusal>
     ensures { FieldsPromise (input_of width height cells.now indices.now ends.now)
         (lent states.old queue.old parents.old ranks.old answers.old)
         (lent states.new queue.new parents.new ranks.new answers.new) (joined_of result) }
@@ -35,12 +33,9 @@ pub fn fields(
         ranks: ranks.len(),
         answers: answers.len(),
     };
-    let verdict = fieldsrefusals::judged(width, height, cells, indices, ends, lent);
-    if let Verdict::Refused { number, place } = verdict {
-        return Answer::Refused { number, place };
-    }
+    fieldsrefusals::judged(width, height, cells, indices, ends, lent)?;
     let count = usedparts::joined(
         width, height, cells, indices, ends, states, queue, parents, ranks, answers,
     );
-    countanswer::found(count)
+    Ok(count)
 }

@@ -8,9 +8,10 @@ ghost use Rattle.fieldsrefusals.specs.Lengths.{lengths_of};
 
 use accessrefusal;
 use badgrid;
-use judge::verdict::Verdict;
+use refusal::Refusal;
 
 // The lengths of the lent buffers.
+// Stays: `judged` reads nothing else of the five buffers, and these in its parameters' place would make ten parameters of its six.
 #[derive(Clone, Copy)]
 pub struct Lent {
     pub states: usize,
@@ -21,25 +22,19 @@ pub struct Lent {
 }
 
 // Whether the lent buffers are long enough for so many cells and resources.
+#[tactic(auto, unfolding(walkgraph::specs::Refusals::short_join))]
 fn room_ok(cells: usize, resources: usize, lent: Lent) -> bool
     ensures { result ≡ not (short_join cells resources (lengths_of lent)) }
 {
-    if lent.states < cells {
-        return false;
-    }
-    if lent.queue < cells {
-        return false;
-    }
-    if lent.parents < resources {
-        return false;
-    }
-    if lent.ranks < resources {
-        return false;
-    }
-    resources <= lent.answers
+    cells <= lent.states
+        && cells <= lent.queue
+        && resources <= lent.parents
+        && resources <= lent.ranks
+        && resources <= lent.answers
 }
 
 // The verdict on a call.
+#[tactic(auto, using(crate::proofs::Cells::cells_are), unfolding(judge::specs::Verdicts::verdict_of, walkgraph::specs::Refusals::join_verdict, walkgraph::specs::Refusals::judge))]
 pub fn judged(
     width: u32,
     height: u32,
@@ -47,32 +42,20 @@ pub fn judged(
     indices: &[u32],
     ends: &[u32],
     lent: Lent,
-) -> Verdict
+) -> Result<(), Refusal>
     ensures { verdict_of result ≡ join_verdict width height cells.now indices.now ends.now (lengths_of lent) }
 {
     if !badgrid::grid_ok(width, height, cells) {
-        return Verdict::Refused {
-            number: 1,
-            place: 0,
-        };
+        return Err(Refusal::BadGrid);
     }
     if 512 < ends.len() {
-        return Verdict::Refused {
-            number: 3,
-            place: 0,
-        };
+        return Err(Refusal::Count);
     }
     if !accessrefusal::lists_ok(cells.len(), indices, ends) {
-        return Verdict::Refused {
-            number: 8,
-            place: 0,
-        };
+        return Err(Refusal::Access);
     }
     if !room_ok(cells.len(), ends.len(), lent) {
-        return Verdict::Refused {
-            number: 7,
-            place: 0,
-        };
+        return Err(Refusal::Scratch);
     }
-    Verdict::Accepted
+    Ok(())
 }

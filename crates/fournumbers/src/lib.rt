@@ -15,6 +15,7 @@ pub struct Corners {
 }
 
 // The rectangle behind k others.
+#[tactic(auto, unfolding(walkgraph::specs::Painting::rectangle))]
 pub fn corners_at(numbers: &[i32], k: usize) -> Corners
     requires { 4 * k + 4 ≤ length numbers.now }
     ensures { corners_of result ≡ rectangle numbers.now k }

@@ -9,7 +9,6 @@ ghost use Rattle.seeds.specs.Sown.{input_of};
 ghost use Rattle.groups.specs.Groups.{zero_join, Joins, GroupsFit, Grouped};
 
 use accesslists::call as lists;
-use countanswer::Answer;
 use fields::call;
 use roomlimits;
 
@@ -41,7 +40,7 @@ fn joined(
         &mut ranks,
         answers,
     );
-    let Answer::Counted { count } = found else {
+    let Ok(count) = found else {
         return 0;
     };
     count
@@ -61,7 +60,7 @@ pub fn groups(
     let mut indices = roomlimits::access_cells();
     let mut ends: [u32; 8] = [0; 8];
     let found = lists::access_lists(width, height, cells, resources, &mut indices, &mut ends);
-    let Answer::Counted { count } = found else {
+    let Ok(count) = found else {
         return 0;
     };
     joined(

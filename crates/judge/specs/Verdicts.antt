@@ -1,9 +1,10 @@
 -- The code's verdict as document 01's.
+use Rattle.std.specs.Prelude.{Result, Ok, Err}
 use Rattle.walkgraph.specs.Refusals as table
-use Rattle.judge.specs.declared.verdict.Verdict.{Verdict}
-use Rattle.judge.specs.declared.verdict.Verdict.TheVariants.{Accepted, Refused}
+use Rattle.refusal.specs.declared.Refusal.{Refusal}
+use Rattle.refusal.specs.Table.{number_of, place_of}
 
--- the table's number and place
-unfoldable pub verdict_of : Verdict → table.Verdict
-verdict_of Accepted = table.accepted
-verdict_of (Refused number place) = table.refused number place
+-- a call is accepted, or refused with the table's number and place
+unfoldable pub verdict_of : Result (Unit {0}) Refusal → table.Verdict
+verdict_of (Ok accepted) = table.accepted
+verdict_of (Err refusal) = table.refused (number_of refusal) (place_of refusal)

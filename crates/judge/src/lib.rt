@@ -1,5 +1,4 @@
-// Document 01's table of refusals: the verdict on a call, and the tests that several calls share. None of them requires anything of what it is given.
+// Document 01's table of refusals: the tests that several calls share. None of them requires anything of what it is given.
 #![tactic(auto)]
 
 pub mod numbers;
-pub mod verdict;

@@ -1,6 +1,7 @@
 -- One rectangle of many that are not refused: its ring is on the map, and the places that the code lists of it are its access cells.
-use mathlib.Core.Path.{◌≡◌, sym, ◌∙◌}
-use mathlib.Core.Bool.{Bool, true, false}
+use Rattle.std.specs.Prelude.{Option, IsSome}
+use mathlib.Core.Path.{◌≡◌}
+use mathlib.Core.Bool.{Bool, false}
 use mathlib.Core.List.{List}
 use Prim.Native.Nat.{ℕ, zero, suc, ◌+◌, ◌*◌, ◌-◌, ◌≤◌}
 use native.Mathlib.Nat.{suc-mul, mul-le-mul}
@@ -13,9 +14,10 @@ use Rattle.walkgraph.specs.Refusals.{bad_grid, bad_resource}
 use Rattle.walkgraph.proofs.Tests.{cond_ind}
 use Rattle.cells.specs.declared.boxes.CellBox.{CellBox}
 use Rattle.cells.specs.Boxes.{box_of}
-use Rattle.cells.proofs.Bools.{clash}
-use Rattle.rings.specs.Rings.{Accepted}
+use Rattle.rings.specs.declared.ring.Ring.{Ring}
+use Rattle.rings.specs.Rings.{RingOf, Accepted}
 use Rattle.rings.proofs.Search.{all_good}
+use Rattle.rings.proofs.Sources.{has_ring}
 use Rattle.badgrid.proofs.Accepted.{grid}
 use Rattle.ringruns.specs.Runs.{OnMap}
 use Rattle.ringrows.specs.Rows.{ring_places}
@@ -61,8 +63,9 @@ module _ {w h : ℕ} {cells : List ℕ} {l : List ℤ} {k : ℕ} (o : OneOf w h 
       let there = o.there in
       (g.across.most, g.along.most, omega arith)
 
-  pub not_refused {ℓ} : {A : Type ℓ} → bad_resource w h (rectangle l k) ≡ true → A
-  not_refused e = absurd (clash (sym e ∙ good))
+  -- its ring, as `ring_at` gives it
+  pub there_is_ring : (ring : Option Ring) → RingOf w h (rectangle l k) ring → IsSome ring
+  there_is_ring ring e = has_ring w h (rectangle l k) ring e good
 
   -- its ring box and its body as the code has them
   module _ (ring core : CellBox) (e : Accepted w h (rectangle l k) ring core) where

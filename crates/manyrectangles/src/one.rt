@@ -13,10 +13,7 @@ pub fn count_one(cells: &[u8], rectangles: &[i32], k: usize, width: usize, heigh
     requires { OneOf width height cells.now rectangles.now k }
     ensures { result ≡ length (cells_of width height cells.now rectangles.now k) }
 {
-    let found = ring::ring_at(rectangles, k, width, height);
-    let Ring::Present { ring, body } = found else {
-        return 0;
-    };
+    let Ring { ring, body } = ring::ring_at(rectangles, k, width, height).unwrap();
     rows::count_rows(cells, ring, body, width)
 }
 
@@ -33,9 +30,6 @@ pub fn list_one(
     requires { OneFits width height cells.now rectangles.now k used (length indices.old) }
     ensures { Listed (cells_of width height cells.now rectangles.now k) indices.old used indices.new result }
 {
-    let found = ring::ring_at(rectangles, k, width, height);
-    let Ring::Present { ring, body } = found else {
-        return used;
-    };
+    let Ring { ring, body } = ring::ring_at(rectangles, k, width, height).unwrap();
     used + rows::list_rows(cells, ring, body, width, &mut indices[used..])
 }

@@ -2,7 +2,7 @@
 use mathlib.Core.Path.{◌≡◌, refl, sym, ap, ◌∙◌}
 use mathlib.Core.Logic.{⊎_elim}
 use mathlib.Core.Bool.{Bool, true, false, cond, not}
-use Prim.Native.Nat.{ℕ, ◌/◌, ◌≤◌}
+use Prim.Native.Nat.{◌/◌, ◌≤◌}
 use native.Mathlib.Omega.{arith}
 use lib.ListN.{length}
 use borrow.Author.Tests.{not-true, not-false, eq-eqb, ne_eqb}
@@ -20,8 +20,10 @@ use Rattle.window.specs.declared.record.Window.{Window}
 use Rattle.window.specs.Windows.{as_record, window_over}
 use Rattle.window.proofs.Fits.{sizes}
 use Rattle.plan.specs.declared.Lent.{Lent}
-use Rattle.plan.specs.declared.Plan.{Plan}
-use Rattle.plan.specs.declared.Plan.TheVariants.{Refused, Nothing, Make}
+use Rattle.std.specs.Prelude.{Option, Some, None, Result, Ok, Err}
+use Rattle.refusal.specs.declared.Refusal.{Refusal}
+use Rattle.refusal.specs.declared.Refusal.TheVariants.{Scratch}
+use Rattle.refusal.specs.Table.{number_of, place_of}
 use Rattle.plan.specs.declared.site.Site.{Site}
 use Rattle.refusals.specs.Verdicts.{rest_tests}
 use Rattle.plan.specs.Sites.{GoodSite}
@@ -36,10 +38,6 @@ in_limits_lem s g =
     let columns : s.window.width ≡ w.width = ap (λ (v : Window). v.width) g.over in
     let rows : s.window.height ≡ w.height = ap (λ (v : Window). v.height) g.over in
     (omega (arith, columns, z.columns, g.on_map.wide), omega (arith, rows, z.rows, g.on_map.high), ⊎_elim (λ l. omega (arith, l)) (λ l. omega (arith, l)) g.count)
-
-pub site_plan_lem : (s : Site) (lent : Lent) (b : Bool) → enough s.window lent ≡ b → cond b (Make s) (Refused 7 0) ≡ site_plan s lent
-unfolding site_plan
-site_plan_lem s lent b e = rw e
 
 -- ---- the boxes and the window of a site are those of the call
 abbrev pub SiteFor : FieldInput → Site → Type 0
@@ -84,16 +82,16 @@ some_resources i before h = rw (ne_eqb (length i.resources / 4) 0 (λ z. omega (
 
 -- ---- the plan, by what the parts of the verdict say
 module _ (i : FieldInput) (lent : Lent) where
-  pub map_refused : {number place : ℕ} → map_part i accepted ≡ refused number place → PlanOf i lent (Refused number place)
+  pub map_refused : (refusal : Refusal) → map_part i accepted ≡ refused (number_of refusal) (place_of refusal) → PlanOf i lent (Err refusal)
   unfolding PlanOf
-  map_refused e = λ before l. map_refuses reach i before e
+  map_refused refusal e = λ before l. map_refuses reach i before e
 
-  pub rest_refused : {number place : ℕ} → map_part i accepted ≡ accepted → rest_part i accepted ≡ refused number place → PlanOf i lent (Refused number place)
+  pub rest_refused : (refusal : Refusal) → map_part i accepted ≡ accepted → rest_part i accepted ≡ refused (number_of refusal) (place_of refusal) → PlanOf i lent (Err refusal)
   unfolding PlanOf
-  rest_refused d e = λ before l. rest_refuses reach i before d e
+  rest_refused refusal d e = λ before l. rest_refuses reach i before d e
 
 module _ (i : FieldInput) (lent : Lent) (d : map_part i accepted ≡ accepted) (e : rest_part i accepted ≡ accepted) where
-  pub nothing : length i.resources ≡ 0 → PlanOf i lent Nothing
+  pub nothing : length i.resources ≡ 0 → PlanOf i lent (Ok None)
   unfolding PlanOf
   nothing z =
       let none : length i.resources / 4 ≡ 0 = omega (arith, z) in
@@ -126,7 +124,7 @@ module _ (i : FieldInput) (lent : Lent) (d : map_part i accepted ≡ accepted) (
     decided : (before : buffers.Lent) → room_part reach i before ≡ judge (short_buffers (call_of reach i) before) 7 0 accepted
     decided before = some_resources i before (found n).rings.some
 
-    by_room : (b : Bool) → enough s.window lent ≡ b → PlanOf i lent (cond b (Make s) (Refused 7 0))
+    by_room : (b : Bool) → enough s.window lent ≡ b → PlanOf i lent (cond b (Ok (Some s)) (Err Scratch))
     unfolding PlanOf
     by_room true t =
         let m = map_found i d in
@@ -143,6 +141,6 @@ module _ (i : FieldInput) (lent : Lent) (d : map_part i accepted ≡ accepted) (
         }
     by_room false t = λ before l. room_decides reach i before d e ∙ (decided before ∙ sym (refuses _ (not-false _ (sym (room_is i s lent before o l) ∙ t))))
 
-    pub make : (p : Plan) → p ≡ site_plan s lent → PlanOf i lent p
+    pub make : (p : Result (Option Site) Refusal) → p ≡ site_plan s lent → PlanOf i lent p
     unfolding site_plan
     make p f = rw f (by_room (enough s.window lent) refl)

@@ -1,5 +1,5 @@
 -- What a field call leads to, by the window and by the lengths of the lent buffers.
-use Rattle.std.specs.Prelude.{◌≡◌, Bool, true, false, cond, ◌&&◌, List, ℕ, ◌+◌, ◌*◌, ◌-◌, ◌/◌, ◌≤◌, length, ℤ, leb}
+use Rattle.std.specs.Prelude.{◌≡◌, Bool, true, false, cond, ◌&&◌, Option, Some, None, Result, Ok, Err, List, ℕ, ◌+◌, ◌*◌, ◌-◌, ◌/◌, ◌≤◌, length, ℤ, leb}
 use Rattle.walkgraph.specs.Painting.{Rectangle}
 use Rattle.walkgraph.specs.Window.{sources}
 use Rattle.walkgraph.specs.Buffers as buffers
@@ -11,8 +11,9 @@ use Rattle.targetbox.specs.TargetBox.{cells_of}
 use Rattle.window.specs.declared.record.Window.{Window}
 use Rattle.lane.specs.Levels.{LaneCount}
 use Rattle.plan.specs.declared.Lent.{Lent}
-use Rattle.plan.specs.declared.Plan.{Plan}
-use Rattle.plan.specs.declared.Plan.TheVariants.{Refused, Nothing, Make}
+use Rattle.refusal.specs.declared.Refusal.{Refusal}
+use Rattle.refusal.specs.declared.Refusal.TheVariants.{Scratch}
+use Rattle.refusal.specs.Table.{number_of, place_of}
 use Rattle.plan.specs.declared.site.Site.{Site}
 use Rattle.plan.specs.Sites.{GoodSite}
 
@@ -40,8 +41,8 @@ pub record SiteOf (width height lanes : ℕ) (resources : List ℤ) (targets : R
   pub count : s.window.lanes ≡ lanes
 
 -- the plan of a site: refusal 7 is left
-unfoldable pub site_plan : Site → Lent → Plan
-site_plan s lent = cond (enough s.window lent) (Make s) (Refused 7 0)
+unfoldable pub site_plan : Site → Lent → Result (Option Site) Refusal
+site_plan s lent = cond (enough s.window lent) (Ok (Some s)) (Err Scratch)
 
 -- ---- the plan of a field call
 
@@ -82,7 +83,7 @@ pub record ToMake (i : FieldInput) (lent : Lent) (s : Site) : Type 0 where
   pub room : enough s.window lent ≡ true
 
 -- what a plan says of a call
-unfoldable pub PlanOf : FieldInput → Lent → Plan → Type 0
-PlanOf i lent (Refused number place) = Judged i lent (refused number place)
-PlanOf i lent Nothing = NothingToMake i lent
-PlanOf i lent (Make s) = ToMake i lent s
+unfoldable pub PlanOf : FieldInput → Lent → Result (Option Site) Refusal → Type 0
+PlanOf i lent (Err refusal) = Judged i lent (refused (number_of refusal) (place_of refusal))
+PlanOf i lent (Ok None) = NothingToMake i lent
+PlanOf i lent (Ok (Some s)) = ToMake i lent s

@@ -1,16 +1,16 @@
-// What a call leads to: a refusal, nothing, or a field to make. From lengths and shared slices alone.
+// What a call leads to: a refusal, nothing to make, or the site of a field. From lengths and shared slices alone.
 #![tactic(auto)]
 
 pub mod site;
 
 ghost use Rattle.std.specs.Prelude.{◌≡◌, ◌≤◌};
-ghost use Rattle.rings.specs.Rings.{corners};
+ghost use Rattle.fournumbers.specs.Corners.{corners_of};
 ghost use Rattle.plan.specs.Plans.{enough, Accepted, SiteOf, site_plan, input_of, PlanOf};
 ghost use Rattle.plan.specs.Sites.{GoodSite};
 
 use crate::site::Site;
 use fournumbers::Corners;
-use judge::verdict::Verdict;
+use refusal::Refusal;
 use refusals;
 use rings::ring;
 use rowbuffers;
@@ -30,59 +30,32 @@ pub struct Lent {
     pub pulled_up: usize,
 }
 
-// What a call leads to: it is refused, there is nothing to make, or a field is made at a site.
-#[derive(Drop)]
-pub enum Plan {
-    Refused { number: u32, place: u32 },
-    Nothing,
-    Make(Site),
-}
-
 // Whether the lent buffers are as long as the window needs.
+#[tactic(auto, unfolding(crate::specs::Plans::enough))]
 fn room_ok(window: Window, lent: Lent) -> bool
     requires { (window.width ≤ 1024) × (window.height ≤ 1024) × (window.lanes ≤ 16) }
     ensures { result ≡ enough window lent }
 {
     let cells = record::padded(window);
-    if lent.lanes < cells * window.lanes {
-        return false;
-    }
-    if lent.walk < cells {
-        return false;
-    }
-    if lent.flags < cells {
-        return false;
-    }
-    rowbuffers::enough(
-        window.height,
-        lent.rows,
-        lent.versions,
-        lent.pulled_down,
-        lent.pulled_up,
-    )
+    cells * window.lanes <= lent.lanes
+        && cells <= lent.walk
+        && cells <= lent.flags
+        && rowbuffers::enough(
+            window.height,
+            lent.rows,
+            lent.versions,
+            lent.pulled_down,
+            lent.pulled_up,
+        )
 }
 
 // The site of accepted resources and targets.
-fn site_of(
-    width: usize,
-    height: usize,
-    lanes: usize,
-    resources: &[i32],
-    left: i32,
-    top: i32,
-    right: i32,
-    bottom: i32,
-) -> Site
-    requires { Accepted width height lanes resources.now (corners left top right bottom) }
-    ensures { SiteOf width height lanes resources.now (corners left top right bottom) result }
+fn site_of(width: usize, height: usize, lanes: usize, resources: &[i32], targets: Corners) -> Site
+    requires { Accepted width height lanes resources.now (corners_of targets) }
+    ensures { SiteOf width height lanes resources.now (corners_of targets) result }
 {
     let sources = ring::sources(resources, width, height);
-    let targets = targetbox::cells_of(Corners {
-        left,
-        top,
-        right,
-        bottom,
-    });
+    let targets = targetbox::cells_of(targets);
     let window = record::window_of(sources, targets, width, height, lanes);
     Site {
         width,
@@ -94,21 +67,19 @@ fn site_of(
 }
 
 // The plan of accepted resources and targets: refusal 7 is left.
-fn plan_site(site: Site, lent: Lent) -> Plan
+#[tactic(auto, unfolding(crate::specs::Plans::site_plan))]
+fn plan_site(site: Site, lent: Lent) -> Result<Option<Site>, Refusal>
     requires { GoodSite site }
     ensures { result ≡ site_plan site lent }
 {
-    let window = site.window;
-    if !room_ok(window, lent) {
-        return Plan::Refused {
-            number: 7,
-            place: 0,
-        };
+    if room_ok(site.window, lent) {
+        Ok(Some(site))
+    } else {
+        Err(Refusal::Scratch)
     }
-    Plan::Make(site)
 }
 
-// The plan of a call.
+// The plan of a call: the site where a field is made, or none where there is nothing to make.
 pub fn plan_of(
     width: u32,
     height: u32,
@@ -116,28 +87,22 @@ pub fn plan_of(
     lanes: u32,
     blockers: &[i32],
     resources: &[i32],
-    left: i32,
-    top: i32,
-    right: i32,
-    bottom: i32,
+    targets: Corners,
     lent: Lent,
-) -> Plan
-    ensures { PlanOf (input_of width height cells.now lanes blockers.now resources.now (corners left top right bottom)) lent result }
+) -> Result<Option<Site>, Refusal>
+    ensures { PlanOf (input_of width height cells.now lanes blockers.now resources.now (corners_of targets)) lent result }
 {
-    let map = refusals::judge_map(width, height, cells, lanes, resources);
-    if let Verdict::Refused { number, place } = map {
-        return Plan::Refused { number, place };
+    refusals::judge_map(width, height, cells, lanes, resources)?;
+    refusals::judge_rest(width, height, blockers, resources, targets)?;
+    if resources.is_empty() {
+        return Ok(None);
     }
-    let rest = refusals::judge_rest(width, height, blockers, resources, left, top, right, bottom);
-    if let Verdict::Refused { number, place } = rest {
-        return Plan::Refused { number, place };
-    }
-    if resources.len() == 0 {
-        return Plan::Nothing;
-    }
-    let columns = width as usize;
-    let rows = height as usize;
-    let count = lanes as usize;
-    let site = site_of(columns, rows, count, resources, left, top, right, bottom);
+    let site = site_of(
+        width as usize,
+        height as usize,
+        lanes as usize,
+        resources,
+        targets,
+    );
     plan_site(site, lent)
 }

@@ -10,12 +10,13 @@ use Rattle.walkgraph.specs.Refusals.{bad_grid, bad_resource, accepted, access_ve
 use Rattle.walkgraph.specs.AccessPromise.{AccessPromise}
 use Rattle.walkgraph.specs.AccessPromise as promise
 use Rattle.judge.proofs.Judging.{refuses, passes}
-use Rattle.countanswer.specs.declared.Answer.{Answer}
+use Rattle.std.proofs.Common.{Result}
+use Rattle.refusal.specs.declared.Refusal.{Refusal}
 use Rattle.countanswer.specs.Answers.{listed_of}
 use Rattle.ringanswer.specs.Answers.{RingListed, short, fits}
 
 -- of a resource that is not refused: refusal 7, or the list
-pub answered : (w h : ℕ) (cells : List ℕ) (r : Rectangle) → bad_grid w h cells ≡ false → bad_resource w h r ≡ false → {before after : List ℕ} {a : Answer} →
+pub answered : (w h : ℕ) (cells : List ℕ) (r : Rectangle) → bad_grid w h cells ≡ false → bad_resource w h r ≡ false → {before after : List ℕ} {a : Result ℕ Refusal} →
     RingListed (access_cells w h cells r) before after a → AccessPromise w h cells r before after (listed_of a)
 unfolding access_verdict listed_of
 answered w h cells r good_grid good (short s) = promise.refuses (sym (passes 1 0 good_grid (passes 4 0 good (refuses accepted (lt-ltb _ _ s)))))

@@ -6,11 +6,11 @@ use native.Mathlib.Omega.{arith}
 use lib.ListN.{length, drop}
 use lib.Seq.{sets-eq}
 use Rattle.ringlists.specs.Lists.{Listed}
-use Rattle.countanswer.specs.declared.Answer.TheVariants.{Counted}
+use Rattle.std.proofs.Common.{Ok}
 use Rattle.ringanswer.specs.Answers.{RingListed, fits}
 
 -- a whole list from the buffer's start on
-pub ring_listed : {p before after : List ℕ} {end : ℕ} → length p ≤ length before → Listed p before 0 after end → RingListed p before after (Counted end)
+pub ring_listed : {p before after : List ℕ} {end : ℕ} → length p ≤ length before → Listed p before 0 after end → RingListed p before after (Ok end)
 ring_listed {p} {before} {after} {end} h l =
     let from_start : 0 + length p ≡ length p = omega arith in
     let all : after ≡ p ++ drop (length p) before = l.buffer ∙ rw from_start at (sets-eq p before 0 (omega arith)) in

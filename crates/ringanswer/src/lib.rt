@@ -8,7 +8,7 @@ ghost use Rattle.ringrows.specs.Rows.{ring_places};
 ghost use Rattle.ringanswer.specs.Answers.{RingListed};
 
 use cells::boxes::CellBox;
-use countanswer::Answer;
+use refusal::Refusal;
 use ringrows::rows;
 
 // Lists the walkable cells of a ring, or refuses a buffer that is too short for them.
@@ -18,17 +18,13 @@ pub fn list_ring(
     body: CellBox,
     width: usize,
     out: &mut [u32],
-) -> Answer
+) -> Result<usize, Refusal>
     requires { OnMap width (length cells.now) (box_of ring) (box_of body) }
     ensures { RingListed (ring_places cells.now width (box_of ring) (box_of body)) out.old out.new result }
 {
     let needed = rows::count_rows(cells, ring, body, width);
     if out.len() < needed {
-        return Answer::Refused {
-            number: 7,
-            place: 0,
-        };
+        return Err(Refusal::Scratch);
     }
-    let count = rows::list_rows(cells, ring, body, width, out);
-    Answer::Counted { count }
+    Ok(rows::list_rows(cells, ring, body, width, out))
 }

@@ -9,16 +9,11 @@ use lib.Dec.{leb}
 use borrow.Author.Tests.{le-leb, lt-leb}
 use Rattle.walkgraph.specs.Map.{Box}
 use Rattle.walkgraph.proofs.Tests.{cond_ind}
-use Rattle.ringruns.specs.declared.Runs.{Runs}
 use Rattle.ringruns.specs.Runs.{OnGrid, OnMap, whole_row, beside_body, row_runs, InCells}
 
 -- where a row starts
 pub row_start : {width : ℕ} {ring body : Box} (y : ℕ) → OnGrid width ring body → y ≤ ring.bottom → y * width ≤ 1048576
 row_start y g h = let i : y ≤ 1024 = omega (arith, g.rows) in mul-le-mul i g.wide
-
-pub same_runs : {a a' b b' c c' d d' : ℕ} → a ≡ a' → b ≡ b' → c ≡ c' → d ≡ d' →
-    ◌≡◌ {A = Runs} (record { first = a; before = b; second = c; after = d }) (record { first = a'; before = b'; second = c'; after = d' })
-same_runs h i j k = cc
 
 module _ (width : ℕ) (ring body : Box) (y : ℕ) where
   -- ---- the runs of row y: above the body, below it, beside it

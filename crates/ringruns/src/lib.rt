@@ -17,27 +17,25 @@ pub struct Runs {
 }
 
 // The runs of row y of a ring, on a map of width columns.
+#[tactic(auto, using(crate::proofs::RowRuns::row_start), unfolding(crate::specs::Runs::row_runs))]
 pub fn row_runs(ring: CellBox, body: CellBox, width: usize, y: usize) -> Runs
     requires { OnGrid width (box_of ring) (box_of body) × (y ≤ ring.bottom) }
     ensures { result ≡ row_runs width (box_of ring) (box_of body) y }
 {
     let start = y * width;
-    let whole = Runs {
-        first: start + ring.left,
-        before: ring.right + 1 - ring.left,
-        second: start,
-        after: 0,
-    };
-    if y < body.top {
-        return whole;
-    }
-    if body.bottom < y {
-        return whole;
-    }
-    Runs {
-        first: start + ring.left,
-        before: body.left - ring.left,
-        second: start + body.right + 1,
-        after: ring.right - body.right,
+    if body.top <= y && y <= body.bottom {
+        Runs {
+            first: start + ring.left,
+            before: body.left - ring.left,
+            second: start + body.right + 1,
+            after: ring.right - body.right,
+        }
+    } else {
+        Runs {
+            first: start + ring.left,
+            before: ring.right + 1 - ring.left,
+            second: start,
+            after: 0,
+        }
     }
 }

@@ -1,42 +1,19 @@
--- One side of a rectangle, from pixel low to pixel high along an axis of size cells, as the code tests it; and a rectangle of two good sides is on the map.
+-- One side of a rectangle, from pixel low to pixel high along an axis of size cells; and a rectangle of two good sides is on the map.
 use mathlib.Core.Path.{◌≡◌, refl}
-use mathlib.Core.Bool.{true, false, not, ◌&&◌}
+use mathlib.Core.Bool.{false, ◌&&◌}
 use Prim.Native.Nat.{ℕ, ◌*◌, ◌≤◌, ◌<◌}
 use native.Mathlib.Omega.{arith}
 use lib.IntN.{ℤ, pos, negsuc}
-use lib.Signed.{lt_z, le_z}
 use lib.Dec.{T, leb, ltb, leb→le, ltb→lt}
-use borrow.Author.Tests.{not-false, ltb-true, leb-true, leb-false, le-leb, lt-ltb, le-ltb}
+use borrow.Author.Tests.{not-false, le-leb}
 use Rattle.walkgraph.specs.Painting.{Rectangle}
 use Rattle.walkgraph.specs.Ring.{pixel}
 use Rattle.walkgraph.specs.Refusals.{bad_side, bad_resource}
 use Rattle.walkgraph.proofs.Tests.{and_left, and_right}
 use Rattle.walklaws.proofs.Maps.{OnMap}
-use Rattle.cells.proofs.Bools.{clash, not_not, neither}
+use Rattle.cells.proofs.Bools.{clash, neither}
 
-pub span_below : (size : ℕ) (low high : ℤ) → lt_z low (pos 0) ≡ true → not (bad_side size low high) ≡ false
-unfolding bad_side
-span_below size (pos a) high e = absurd (omega (arith, ltb-true a 0 e))
-span_below size (negsuc a) high e = refl
-
-pub span_empty : (size : ℕ) (low high : ℤ) → le_z high low ≡ true → not (bad_side size low high) ≡ false
-unfolding bad_side
-span_empty size (pos a) (pos b) e = rw (le-leb 0 a (omega arith), le-ltb a b (leb-true b a e))
-span_empty size (pos a) (negsuc b) e = rw (le-leb 0 a (omega arith))
-span_empty size (negsuc a) high e = refl
-
--- where it is not empty and starts from 0 on, its end decides
-pub record EndDecides (size : ℕ) (low high : ℤ) : Type 0 where
-  pub high_is : high ≡ pos (pixel high)
-  pub test : leb (pixel high) (8 * size) ≡ not (bad_side size low high)
-
-pub span_end : (size : ℕ) (low high : ℤ) → lt_z low (pos 0) ≡ false → le_z high low ≡ false → EndDecides size low high
-unfolding bad_side pixel
-span_end size (pos a) (pos b) e f = record { high_is = refl; test = rw (le-leb 0 a (omega arith), lt-ltb a b (leb-false b a f)) (not_not (leb b (8 * size))) }
-span_end size (pos a) (negsuc b) e f = absurd (clash f)
-span_end size (negsuc a) high e f = absurd (clash e)
-
--- ---- a side that is not refused, and a resource of two such sides
+-- a side that is not refused
 pub record Side (size : ℕ) (low high : ℤ) : Type 0 where
   pub low_is : low ≡ pos (pixel low)
   pub high_is : high ≡ pos (pixel high)
@@ -57,6 +34,7 @@ side size (pos a) (pos b) e =
 side size (pos a) (negsuc b) e = absurd (clash (rw (le-leb 0 a (omega arith)) at e))
 side size (negsuc a) high e = absurd (clash e)
 
+-- a resource of two such sides
 pub on_map : (w h : ℕ) (r : Rectangle) → bad_resource w h r ≡ false → OnMap w h r
 unfolding bad_resource
 on_map w h r e =

@@ -1,8 +1,9 @@
 -- The box around all ring boxes: as the code grows it, and where it lies.
 use mathlib.Core.Path.{◌≡◌, refl, sym, ap, ◌∙◌}
-use mathlib.Core.Bool.{false}
+use mathlib.Core.Bool.{true, false}
 use mathlib.Core.List.{List}
 use Prim.Native.Nat.{ℕ, zero, suc, ◌+◌, ◌-◌, ◌/◌, ◌≤◌}
+use borrow.Author.Rules.{rules}
 use native.Mathlib.Omega.{arith}
 use native.Mathlib.Numerals.{add-one}
 use lib.IntN.{ℤ}
@@ -14,9 +15,9 @@ use Rattle.walkgraph.specs.Window.{hull, sources}
 use Rattle.walkgraph.specs.Refusals.{bad_resource}
 use Rattle.walklaws.proofs.Maps.{OnMap}
 use Rattle.rings.specs.declared.ring.Ring.{Ring}
-use Rattle.rings.specs.declared.ring.Ring.TheVariants.{Present, Refused}
+use Rattle.std.specs.Prelude.{Option, Some, None, is_some, IsSome}
 use Rattle.cells.specs.Boxes.{InMap}
-use Rattle.rings.specs.Rings.{RingOf, AllRings, around}
+use Rattle.rings.specs.Rings.{Accepted, RingOf, AllRings, around}
 use Rattle.cells.proofs.Bools.{clash}
 use Rattle.rings.proofs.Sides.{on_map}
 use Rattle.rings.proofs.Search.{all_good}
@@ -24,6 +25,27 @@ use Rattle.rings.proofs.Search.{all_good}
 pub same_box_lem : {l l' t t' r r' b b' : ℕ} → l ≡ l' → t ≡ t' → r ≡ r' → b ≡ b' →
     ◌≡◌ {A = Box} (record { left = l; top = t; right = r; bottom = b }) (record { left = l'; top = t'; right = r'; bottom = b' })
 same_box_lem h i j k = cc
+
+-- ---- whether there is a ring
+pub refused_by : (w h : ℕ) (r : Rectangle) (ring : Option Ring) → RingOf w h r ring → is_some ring ≡ false → bad_resource w h r ≡ true
+unfolding RingOf
+refused_by w h r (Some found) o e = absurd (clash e)
+refused_by w h r None o e = o
+
+pub accepted_by : (w h : ℕ) (r : Rectangle) (ring : Option Ring) → RingOf w h r ring → is_some ring ≡ true → bad_resource w h r ≡ false
+unfolding RingOf
+accepted_by w h r (Some found) o e = o.good
+accepted_by w h r None o e = absurd (clash (sym e))
+
+-- a resource that is not refused has a ring, and it is the one that is found
+pub has_ring : (w h : ℕ) (r : Rectangle) (ring : Option Ring) → RingOf w h r ring → bad_resource w h r ≡ false → IsSome ring
+unfolding RingOf
+has_ring w h r (Some found) o e = search rules
+has_ring w h r None o e = absurd (clash (sym o ∙ e))
+
+pub found_ring : (w h : ℕ) (r : Rectangle) {ring : Option Ring} (found : Ring) → RingOf w h r ring → ring ≡ Some found → Accepted w h r found.ring found.body
+unfolding RingOf
+found_ring w h r found o e = rw e at o
 
 -- ---- around the ring boxes of the first k resources; a ring box and the box around none make the ring box
 unfoldable pub so_far : ℕ → ℕ → List ℤ → ℕ → Box
@@ -45,12 +67,12 @@ unfolding so_far
 so_far_all w h l zero i = absurd (omega arith)
 so_far_all w h l (suc n) i = let e : suc n - 1 ≡ n = omega arith in rw e
 
-around_good : (w h : ℕ) (r : Rectangle) (b : Box) (ring : Ring) → RingOf w h r ring → bad_resource w h r ≡ false → around b ring ≡ hull b (ring_box w h r)
+around_good : (w h : ℕ) (r : Rectangle) (b : Box) (ring : Option Ring) → RingOf w h r ring → bad_resource w h r ≡ false → around b ring ≡ hull b (ring_box w h r)
 unfolding RingOf around
-around_good w h r b (Present ring body) o e = ap (hull b) o.ring
-around_good w h r b Refused o e = absurd (clash (sym o ∙ e))
+around_good w h r b (Some found) o e = ap (hull b) o.ring
+around_good w h r b None o e = absurd (clash (sym o ∙ e))
 
-pub so_far_around : (w h : ℕ) (l : List ℤ) (k : ℕ) (b : Box) (ring : Ring) → b ≡ so_far w h l k → RingOf w h (rectangle l k) ring → bad_resource w h (rectangle l k) ≡ false →
+pub so_far_around : (w h : ℕ) (l : List ℤ) (k : ℕ) (b : Box) (ring : Option Ring) → b ≡ so_far w h l k → RingOf w h (rectangle l k) ring → bad_resource w h (rectangle l k) ≡ false →
     around b ring ≡ so_far w h l (k + 1)
 so_far_around w h l k b ring e o good = rw (around_good w h (rectangle l k) b ring o good, e, add-one k) (so_far_more w h l k (on_map w h (rectangle l k) good))
 

@@ -1,13 +1,12 @@
 -- The ring box and the body of a resource as the code gives them, and the box around all ring boxes.
-use Rattle.std.specs.Prelude.{◌≡◌, Bool, true, false, not, ◌&&◌, List, ℕ, ◌/◌, ◌≤◌, length, ℤ, ltb}
+use Rattle.std.specs.Prelude.{◌≡◌, true, false, Option, Some, None, List, ℕ, ◌/◌, ◌≤◌, length, ℤ}
 use Rattle.walkgraph.specs.Map.{Box}
-use Rattle.walkgraph.specs.Painting.{Rectangle, rectangle}
+use Rattle.walkgraph.specs.Painting.{Rectangle}
 use Rattle.walkgraph.specs.Ring.{body, ring_box}
 use Rattle.walkgraph.specs.Window.{hull}
 use Rattle.walkgraph.specs.Refusals.{bad_resource, first_bad_resource}
 use Rattle.cells.specs.declared.boxes.CellBox.{CellBox}
 use Rattle.rings.specs.declared.ring.Ring.{Ring}
-use Rattle.rings.specs.declared.ring.Ring.TheVariants.{Present, Refused}
 use Rattle.cells.specs.Boxes.{box_of}
 
 -- "a rectangle is four i32: left, top, right, bottom"
@@ -21,18 +20,14 @@ pub record Accepted (width height : ℕ) (r : Rectangle) (ring_cells body_cells 
   pub body : box_of body_cells ≡ body r
 
 -- what the code's answer says of a rectangle
-unfoldable pub RingOf : ℕ → ℕ → Rectangle → Ring → Type 0
-RingOf width height r (Present ring body) = Accepted width height r ring body
-RingOf width height r Refused = bad_resource width height r ≡ true
-
--- there is a resource k, and it is accepted
-unfoldable pub is_present : ℕ → ℕ → List ℤ → ℕ → Bool
-is_present width height resources k = ltb k (length resources / 4) && not (bad_resource width height (rectangle resources k))
+unfoldable pub RingOf : ℕ → ℕ → Rectangle → Option Ring → Type 0
+RingOf width height r (Some found) = Accepted width height r found.ring found.body
+RingOf width height r None = bad_resource width height r ≡ true
 
 -- the box around a box and the ring box, if there is one
-unfoldable pub around : Box → Ring → Box
-around b (Present ring body) = hull b (box_of ring)
-around b Refused = b
+unfoldable pub around : Box → Option Ring → Box
+around b (Some found) = hull b (box_of found.ring)
+around b None = b
 
 -- there are resources, and each is accepted, on a map in the limits of its size
 pub record AllRings (width height : ℕ) (resources : List ℤ) : Type 0 where

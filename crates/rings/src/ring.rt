@@ -4,97 +4,64 @@ ghost use Rattle.walkgraph.specs.Painting.{rectangle};
 ghost use Rattle.walkgraph.specs.Window.{sources};
 ghost use Rattle.walkgraph.specs.Refusals.{bad_side, first_bad_resource};
 ghost use Rattle.cells.specs.Boxes.{box_of};
-ghost use Rattle.rings.specs.Rings.{corners, RingOf, is_present, around, AllRings};
+ghost use Rattle.fournumbers.specs.Corners.{corners_of};
+ghost use Rattle.rings.specs.Rings.{RingOf, around, AllRings};
 
 use cells::boxes::CellBox;
 use cells::edge;
 use fournumbers;
+use fournumbers::Corners;
 use ringends;
 
-// What a rectangle of pixels has for a ring.
-#[derive(Drop)]
-pub enum Ring {
-    Present { ring: CellBox, body: CellBox },
-    Refused,
+// The ring box and the body of an accepted resource.
+#[derive(Clone, Copy)]
+pub struct Ring {
+    pub ring: CellBox,
+    pub body: CellBox,
 }
 
 // Whether a span of pixels is one of a resource, along an axis of size cells.
+#[tactic(auto, unfolding(walkgraph::specs::Refusals::bad_side))]
 fn spans(low: i32, high: i32, size: usize) -> bool
     requires { size ≤ 1024 }
     ensures { result ≡ not (bad_side size low high) }
 {
-    if low < 0 {
-        return false;
-    }
-    if high <= low {
-        return false;
-    }
-    high as usize <= 8 * size
+    0 <= low && low < high && high as usize <= 8 * size
 }
 
-// The cell before, clamped to the map.
-fn before(cell: usize) -> usize
-    ensures { result ≡ cell - 1 }
-{
-    edge::past(1, cell)
-}
-
-// The ring box and the body of a resource, or that it is none.
-pub fn ring_of(left: i32, top: i32, right: i32, bottom: i32, width: usize, height: usize) -> Ring
+// The ring of a rectangle of pixels, if it is accepted as a resource.
+#[tactic(auto, using(crate::proofs::Sides::side), unfolding(crate::specs::Rings::RingOf, walkgraph::specs::Refusals::bad_resource, walkgraph::specs::Ring::ring_box, walkgraph::specs::Ring::body))]
+pub fn ring_of(rectangle: Corners, width: usize, height: usize) -> Option<Ring>
     requires { (width ≤ 1024) × (height ≤ 1024) }
-    ensures { RingOf width height (corners left top right bottom) result }
+    ensures { RingOf width height (corners_of rectangle) result }
 {
-    if !spans(left, right, width) {
-        return Ring::Refused;
+    if !spans(rectangle.left, rectangle.right, width) {
+        return None;
     }
-    if !spans(top, bottom, height) {
-        return Ring::Refused;
+    if !spans(rectangle.top, rectangle.bottom, height) {
+        return None;
     }
     let body = CellBox {
-        left: edge::cell_of(left as usize),
-        top: edge::cell_of(top as usize),
-        right: edge::cell_of(right as usize - 1),
-        bottom: edge::cell_of(bottom as usize - 1),
+        left: edge::cell_of(rectangle.left as usize),
+        top: edge::cell_of(rectangle.top as usize),
+        right: edge::cell_of(rectangle.right as usize - 1),
+        bottom: edge::cell_of(rectangle.bottom as usize - 1),
     };
     let ring = CellBox {
-        left: before(body.left),
-        top: before(body.top),
+        left: body.left.saturating_sub(1),
+        top: body.top.saturating_sub(1),
         right: ringends::after(body.right, width),
         bottom: ringends::after(body.bottom, height),
     };
-    Ring::Present { ring, body }
+    Some(Ring { ring, body })
 }
 
 // The ring of resource k.
-pub fn ring_at(resources: &[i32], k: usize, width: usize, height: usize) -> Ring
+pub fn ring_at(resources: &[i32], k: usize, width: usize, height: usize) -> Option<Ring>
     requires { (width ≤ 1024) × (height ≤ 1024) × (4 * k + 4 ≤ length resources.now) }
     ensures { RingOf width height (rectangle resources.now k) result }
 {
-    let corners = fournumbers::corners_at(resources, k);
-    ring_of(
-        corners.left,
-        corners.top,
-        corners.right,
-        corners.bottom,
-        width,
-        height,
-    )
-}
-
-// Whether there is a resource k and it is not refused.
-fn present(resources: &[i32], k: usize, width: usize, height: usize) -> bool
-    requires { (width ≤ 1024) × (height ≤ 1024) }
-    ensures { result ≡ is_present width height resources.now k }
-{
-    if resources.len() / 4 <= k {
-        return false;
-    }
-    let ring = ring_at(resources, k, width, height);
-    if let Ring::Refused = ring {
-        false
-    } else {
-        true
-    }
+    ring_of(fournumbers::corners_at(resources, k), width, height)
 }
 
 // The number of resources before the first refused one.
@@ -102,28 +69,34 @@ pub fn accepted(resources: &[i32], width: usize, height: usize) -> usize
     requires { (width ≤ 1024) × (height ≤ 1024) }
     ensures { result ≡ first_bad_resource width height resources.now }
 {
-    let mut k: usize = 0;
-    while present(resources, k, width, height) {
-        k += 1;
+    let count = resources.len() / 4;
+    for k in 0..count {
+        if ring_at(resources, k, width, height).is_none() {
+            return k;
+        }
     }
-    k
+    count
 }
 
-// The box around a box and a ring box.
-fn around(boxed: CellBox, ring: Ring) -> CellBox
+// The box around a box and the ring box, if there is one.
+#[tactic(auto, unfolding(crate::specs::Rings::around, walkgraph::specs::Window::hull))]
+fn around(boxed: CellBox, ring: Option<Ring>) -> CellBox
     ensures { box_of result ≡ around (box_of boxed) ring }
 {
-    match ring {
-        Ring::Present {
+    let Some(
+        Ring {
             ring: other,
             body: _,
-        } => CellBox {
-            left: edge::least(boxed.left, other.left),
-            top: edge::least(boxed.top, other.top),
-            right: edge::most(boxed.right, other.right),
-            bottom: edge::most(boxed.bottom, other.bottom),
         },
-        Ring::Refused => boxed,
+    ) = ring
+    else {
+        return boxed;
+    };
+    CellBox {
+        left: boxed.left.min(other.left),
+        top: boxed.top.min(other.top),
+        right: boxed.right.max(other.right),
+        bottom: boxed.bottom.max(other.bottom),
     }
 }
 

@@ -29,12 +29,8 @@ fn start_lane(
     ensures { level_at lanes.new ≡ started_levels (level_at lanes.old) (ring_hit window walk.now rows.now
         (ring_box width height (rectangle resources.now lane)) (body (rectangle resources.now lane)) lane) }
 {
-    match ring::ring_at(resources, lane, width, height) {
-        Ring::Present { ring, body } => ringbox::start_ring(
-            lanes, walk, rows, window, ring, body, lane,
-        ),
-        Ring::Refused => {}
-    }
+    let Ring { ring, body } = ring::ring_at(resources, lane, width, height).unwrap();
+    ringbox::start_ring(lanes, walk, rows, window, ring, body, lane);
 }
 
 // Starts the lanes of all resources.

@@ -24,6 +24,7 @@ pub fn cells_of(targets: Corners) -> CellBox
 }
 
 // How many target cells there are.
+#[tactic(auto, using(crate::proofs::Few::cells_few), unfolding(crate::specs::Targets::target_cells))]
 pub fn target_cells(targets: CellBox) -> usize
     requires { InMap 60 60 (box_of targets) }
     ensures { result ≡ target_cells (box_of targets) }

@@ -1,54 +1,16 @@
--- `accessrefusal::ends_ok`: `last` and the ends that are left fall, and end, as all of them do.
+-- `accessrefusal::ends_ok`: its two tests are those of the ends.
 use mathlib.Core.Path.{◌≡◌, refl, sym, ◌∙◌}
-use mathlib.Core.Bool.{true}
-use native.Mathlib.Omega.{arith}
-use Rattle.walkgraph.specs.Refusals.{never_fall}
-use Rattle.accessrefusal.proofs.Ends.{end_passed, last_passed, end_falls, ends_passed, last_end_lem}
+use Prim.Native.Nat.{◌-◌}
+use lib.ListN.{length, get_or}
+use Rattle.std.proofs.Common.{rules}
+use Rattle.accessrefusal.proofs.Ends.{last_end_at}
 use Rattle.accessrefusal.proofs.ends_ok.Goals as goal
 
-pub loop-k-init : goal.loop-k-init
-loop-k-init c = (omega arith, omega arith, refl, refl)
-
-pub offset_bounds-ends-k : goal.offset_bounds-ends-k
-offset_bounds-ends-k c = omega arith
-
-pub bounds-ends-k : goal.bounds-ends-k
-bounds-ends-k c = omega arith
-
-pub returns-then-ends-k : goal.returns-then-ends-k
-returns-then-ends-k c =
-    let l = c.loop-k in
+pub returns-then-never_fall : goal.returns-then-never_fall
+returns-then-never_fall c =
     let ends = c.args.ends.now in
-    rw (sym l.invariant.2 ∙ end_falls ends l.last l.k (omega arith) (omega (arith, c.if-ends-k.true))) refl
+    let last : c.unwrap_or.result ≡ get_or ends (length ends - 1) 0 = search rules in
+    rw (sym c.never_fall.ensures ∙ c.if-never_fall.true, last_end_at ends, last) refl
 
-pub offset_bounds-ends-k-in-loop-k : goal.offset_bounds-ends-k-in-loop-k
-offset_bounds-ends-k-in-loop-k c = omega arith
-
-pub bounds-ends-k-in-loop-k : goal.bounds-ends-k-in-loop-k
-bounds-ends-k-in-loop-k c = omega arith
-
-pub overflow_step-k : goal.overflow_step-k
-overflow_step-k c = omega arith
-
-pub loop-k-smaller : goal.loop-k-smaller
-loop-k-smaller c = omega arith
-
-pub loop-k-preserved : goal.loop-k-preserved
-loop-k-preserved c =
-    let l = c.loop-k in
-    let ends = c.args.ends.now in (
-      omega arith,
-      omega (arith, c.shared_slice_known-in-loop-k-1.given l.k),
-      end_passed ends l.last l.k (omega arith) (omega (arith, c.if-ends-k.false)) ∙ l.invariant.2,
-      last_passed ends l.last l.k (omega arith) ∙ l.invariant.3,
-    )
-
-pub overflow_cast-result : goal.overflow_cast-result
-overflow_cast-result c = omega (arith, c.loop-k.invariant.1)
-
-pub returns : goal.returns
-returns c =
-    let l = c.loop-k in
-    let ends = c.args.ends.now in
-    let falls : never_fall 0 ends ≡ true = sym l.invariant.2 ∙ ends_passed ends l.last l.k (omega arith) in
-    rw (falls, sym l.invariant.3 ∙ last_end_lem ends l.last l.k (omega arith)) refl
+pub returns-else-never_fall : goal.returns-else-never_fall
+returns-else-never_fall c = rw (sym c.never_fall.ensures ∙ c.if-never_fall.false) c.if-never_fall.false

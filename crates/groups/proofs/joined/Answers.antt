@@ -29,4 +29,4 @@ returns-in_default c =
 pub returns : goal.returns
 unfolding joined_of
 returns c =
-    join_found (let a = c.args in input_of a.width a.height a.cells.now a.indices.now a.ends.now) c.args.answers.now {after = (let l = c.fields-found.new in lent l.states l.queue l.parents l.ranks l.answers)} (rw c.in-Counted.is at c.fields-found.ensures)
+    join_found (let a = c.args in input_of a.width a.height a.cells.now a.indices.now a.ends.now) c.args.answers.now {after = (let l = c.fields-found.new in lent l.states l.queue l.parents l.ranks l.answers)} (rw c.in-Ok.is at c.fields-found.ensures)

@@ -8,7 +8,7 @@ use Rattle.ringlists.proofs.Listing.{listed_none, listed_more, listed_length}
 use Rattle.manyrectangles.specs.AllCells.{cells_of, all_cells}
 use Rattle.manyrectangles.proofs.AllCells.{all_none, all_more, all_length, all_up, all_most, ends_none}
 use Rattle.manyrectangles.proofs.Listing.{end_listed, all_listed}
-use Rattle.rectanglelists.proofs.list_all.Goals.{After-slice_known-in-loop-k-1}
+use Rattle.rectanglelists.proofs.list_all.Goals.{After-list_one-end}
 use Rattle.rectanglelists.proofs.list_all.Goals as goal
 
 pub loop-k-init : goal.loop-k-init
@@ -31,7 +31,7 @@ list_one-end-requires c =
     }
 
 -- the indices after a turn
-turn : (c : After-slice_known-in-loop-k-1) →
+turn : (c : After-list_one-end) →
     Listed (all_cells c.args.width c.args.height c.args.cells.now c.args.rectangles.now (c.loop-k.k + 1)) c.args.indices.now 0 c.list_one-end.new.indices c.list_one-end.result
 turn c =
     let a = c.args in
@@ -40,25 +40,13 @@ turn c =
 pub overflow_cast-ends : goal.overflow_cast-ends
 overflow_cast-ends c =
     let a = c.args in
-    omega (arith, (turn (goal.at.overflow_cast-ends c).After-slice_known-in-loop-k-1).ends, all_most a.width a.height a.cells.now a.rectangles.now c.requires.judged (c.loop-k.k + 1) (omega arith))
-
-pub offset_bounds-ends-k : goal.offset_bounds-ends-k
-offset_bounds-ends-k c = omega (arith, listed_length c.loop-k.invariant.2, c.requires.ends_room)
-
-pub bounds-ends-k : goal.bounds-ends-k
-bounds-ends-k c = omega (arith, listed_length c.loop-k.invariant.2, c.requires.ends_room)
-
-pub overflow_step-k : goal.overflow_step-k
-overflow_step-k c = omega arith
-
-pub loop-k-smaller : goal.loop-k-smaller
-loop-k-smaller c = omega arith
+    omega (arith, (turn (goal.at.overflow_cast-ends c).After-list_one-end).ends, all_most a.width a.height a.cells.now a.rectangles.now c.requires.judged (c.loop-k.k + 1) (omega arith))
 
 pub loop-k-preserved : goal.loop-k-preserved
 loop-k-preserved c =
     let a = c.args in
     let l = c.loop-k in
-    (omega arith, turn (goal.at.loop-k-preserved c).After-slice_known-in-loop-k-1, end_listed a.width a.height a.cells.now a.rectangles.now l.k _ l.invariant.2 (omega (arith, (turn (goal.at.loop-k-preserved c).After-slice_known-in-loop-k-1).ends)))
+    (omega arith, turn (goal.at.loop-k-preserved c).After-list_one-end, end_listed a.width a.height a.cells.now a.rectangles.now l.k _ l.invariant.2 (omega (arith, (turn (goal.at.loop-k-preserved c).After-list_one-end).ends)))
 
 pub shape_of-indices : goal.shape_of-indices
 shape_of-indices c = listed_length c.loop-k.invariant.1

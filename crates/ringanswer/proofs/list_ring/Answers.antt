@@ -16,11 +16,11 @@ returns-then-out-needed c = short (omega (arith, c.if-out-needed.true, c.count_r
 room : (c : Else-out-needed) → let a = c.args in length (ring_places a.cells.now a.width (box_of a.ring) (box_of a.body)) ≤ length a.out.now
 room c = omega (arith, c.if-out-needed.false, c.count_rows-needed.ensures)
 
-pub list_rows-count-requires : goal.list_rows-count-requires
-list_rows-count-requires c = record { map = c.requires; room = room (goal.at.list_rows-count-requires c).Else-out-needed }
+pub list_rows-requires : goal.list_rows-requires
+list_rows-requires c = record { map = c.requires; room = room (goal.at.list_rows-requires c).Else-out-needed }
 
 pub shape_of-out : goal.shape_of-out
-shape_of-out c = c.list_rows-count.auto.out
+shape_of-out c = c.list_rows.auto.out
 
 pub returns : goal.returns
-returns c = ring_listed (room (goal.at.returns c).Else-out-needed) c.list_rows-count.ensures
+returns c = ring_listed (room (goal.at.returns c).Else-out-needed) c.list_rows.ensures

@@ -1,28 +1,29 @@
 -- `fields::call::fields`: judged, then refused with nothing written, or the fields found.
 use mathlib.Core.Path.{◌≡◌, sym, ◌∙◌, ap}
+use Rattle.std.proofs.lemmas.Result.{err_from_is_err_and}
 use Rattle.walkgraph.specs.FieldsPromise.{lengths_of, fields_verdict, refuses, joins}
 use Rattle.judge.specs.Verdicts.{verdict_of}
 use Rattle.seeds.specs.Sown.{input_of}
 use Rattle.usedparts.specs.Lent.{lent}
 use Rattle.countanswer.specs.Answers.{joined_of}
-use Rattle.fields.proofs.call.fields.Goals.{After-judged-verdict}
+use Rattle.fields.proofs.call.fields.Goals.{After-judged}
 use Rattle.fields.proofs.call.fields.Goals as goal
 
 -- the verdict is the table's
-told : (c : After-judged-verdict) → fields_verdict ((let a = c.args in input_of a.width a.height a.cells.now a.indices.now a.ends.now)) ((let a = c.args in lent a.states.now a.queue.now a.parents.now a.ranks.now a.answers.now)) ≡ verdict_of c.judged-verdict.result
+told : (c : After-judged) → let a = c.args in
+    fields_verdict (input_of a.width a.height a.cells.now a.indices.now a.ends.now) (lent a.states.now a.queue.now a.parents.now a.ranks.now a.answers.now) ≡ verdict_of c.judged.result
 unfolding fields_verdict lengths_of
-told c = sym c.judged-verdict.ensures
+told c = sym c.judged.ensures
 
-pub returns-in-Refused : goal.returns-in-Refused
+pub returns-in_err-judged : goal.returns-in_err-judged
 unfolding joined_of verdict_of
-returns-in-Refused c = refuses (told (goal.at.returns-in-Refused c).After-judged-verdict ∙ ap verdict_of c.in-Refused.is)
+returns-in_err-judged c =
+    let p = err_from_is_err_and c.from_residual.result c.from_residual.ensures.1 in
+    rw (p.1, p.2) (refuses (told (goal.at.returns-in_err-judged c).After-judged ∙ ap verdict_of c.in_err-judged.was))
 
 pub joined-count-requires : goal.joined-count-requires
 unfolding verdict_of
-joined-count-requires c = told (goal.at.joined-count-requires c).After-judged-verdict ∙ ap verdict_of c.in_default.is
-
-pub found-requires : goal.found-requires
-found-requires c = tt
+joined-count-requires c = told (goal.at.joined-count-requires c).After-judged ∙ ap verdict_of c.in_ok-judged.was
 
 pub shape_of-states : goal.shape_of-states
 shape_of-states c = c.joined-count.auto.states
@@ -40,6 +41,5 @@ pub shape_of-answers : goal.shape_of-answers
 shape_of-answers c = c.joined-count.auto.answers
 
 pub returns : goal.returns
-unfolding verdict_of
-returns c =
-    rw c.found.ensures (joins (told (goal.at.returns c).After-judged-verdict ∙ ap verdict_of c.in_default.is) c.joined-count.ensures)
+unfolding joined_of verdict_of
+returns c = joins (told (goal.at.returns c).After-judged ∙ ap verdict_of c.in_ok-judged.was) c.joined-count.ensures

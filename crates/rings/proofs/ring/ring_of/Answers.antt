@@ -1,8 +1,9 @@
 -- `rings::ring::ring_of`: after both sides are accepted its four pixels are natural numbers.
-use mathlib.Core.Path.{◌≡◌, sym, ◌∙◌, ap}
+use mathlib.Core.Path.{◌≡◌, sym, ◌∙◌}
 use mathlib.Core.Bool.{Bool, true, false, not}
-use Prim.Native.Nat.{ℕ, ◌+◌, ◌*◌, ◌-◌, ◌/◌, ◌≤◌, ◌<◌, min}
-use borrow.Author.Tests.{not-true, not-false}
+use Prim.Native.Nat.{ℕ}
+use borrow.Author.Rules.{rules}
+use borrow.Author.Tests.{not-true}
 use native.Mathlib.Omega.{arith}
 use lib.IntN.{ℤ}
 use mir.Syntax.{w32}
@@ -10,132 +11,34 @@ use mir.Val.{SFits, to_z, of_z}
 use mir.ValLaws.{to_z-of_z}
 use Rattle.walkgraph.specs.Ring.{body, ring_box}
 use Rattle.walkgraph.specs.Refusals.{bad_side, bad_resource}
+use Rattle.cells.proofs.Casts.{cast}
 use Rattle.rings.specs.Rings.{RingOf}
-use Rattle.cells.proofs.Casts.{cast, may_cast}
-use Rattle.rings.proofs.Sides.{Side, side}
+use Rattle.rings.proofs.Sides.{side}
 use Rattle.rings.proofs.Sources.{same_box_lem}
-use Rattle.rings.proofs.ring.ring_of.Goals.{Else-not-spans, Else-not-spans-2}
 use Rattle.rings.proofs.ring.ring_of.Goals as goal
 
--- what `spans` tells of a side
-module _ (size : ℕ) (low high : ℤ) (f : SFits w32 low) (g : SFits w32 high) {r : Bool} (e : r ≡ not (bad_side size (to_z w32 (of_z w32 low)) (to_z w32 (of_z w32 high)))) where
-  told : r ≡ not (bad_side size low high)
-  told = rw (to_z-of_z w32 low f, to_z-of_z w32 high g) at e
-
-  refused : not r ≡ true → bad_side size low high ≡ true
-  refused t = not-false (bad_side size low high) (sym told ∙ not-true r t)
-
-  accepted : not r ≡ false → bad_side size low high ≡ false
-  accepted t = not-true (bad_side size low high) (sym told ∙ not-false r t)
-
--- a cell by the pixel that is cast: of a low edge and of a high one, the one before it, the one after it, and that it is on a map
-cell_is : {cell pixel n : ℕ} → cell ≡ pixel / 8 → pixel ≡ n → cell ≡ n / 8
-cell_is e f = e ∙ ap (λ (v : ℕ). v / 8) f
-
-last_cell_is : {cell pixel n : ℕ} → cell ≡ (pixel - 1) / 8 → pixel ≡ n → cell ≡ (n - 1) / 8
-last_cell_is e f = e ∙ ap (λ (v : ℕ). (v - 1) / 8) f
-
-before_is : {edge cell n : ℕ} → edge ≡ cell - 1 → cell ≡ n → edge ≡ n - 1
-before_is e f = e ∙ ap (λ (v : ℕ). v - 1) f
-
-after_is : {edge cell n : ℕ} (size : ℕ) → edge ≡ min (size - 1) (cell + 1) → cell ≡ n → edge ≡ min (size - 1) (n + 1)
-after_is size e f = e ∙ ap (λ (v : ℕ). min (size - 1) (v + 1)) f
-
-some_pixel : {pixel low high : ℕ} → pixel ≡ high → low < high → 1 ≤ pixel
-some_pixel e h = omega arith
-
-last_in : {cell pixel low high size : ℕ} → cell ≡ (pixel - 1) / 8 → pixel ≡ high → low < high → high ≤ 8 * size → size ≤ 1024 → (cell ≤ 1024) × (1 ≤ size)
-last_in e f g h k = (omega arith, omega arith)
-
-pub spans-requires : goal.spans-requires
-spans-requires c = c.requires.0
-
-pub returns-then-not-spans : goal.returns-then-not-spans
-unfolding RingOf bad_resource
-returns-then-not-spans c =
-    rw (refused c.args.width c.args.left c.args.right c.ranges.left c.ranges.right c.spans.ensures (ap not c.if-not-spans.true))
-
-pub spans-requires-2 : goal.spans-requires-2
-spans-requires-2 c = c.requires.1
-
-good-across : (c : Else-not-spans) → bad_side c.args.width c.args.left c.args.right ≡ false
-good-across c =
-    accepted c.args.width c.args.left c.args.right c.ranges.left c.ranges.right c.spans.ensures (ap not c.if-not-spans.false)
-
-pub returns-then-not-spans-2 : goal.returns-then-not-spans-2
-unfolding RingOf bad_resource
-returns-then-not-spans-2 c =
-    rw (good-across (goal.at.returns-then-not-spans-2 c).Else-not-spans, refused c.args.height c.args.top c.args.bottom c.ranges.top c.ranges.bottom c.spans-2.ensures (ap not c.if-not-spans-2.true))
-
-good-along : (c : Else-not-spans-2) → bad_side c.args.height c.args.top c.args.bottom ≡ false
-good-along c =
-    accepted c.args.height c.args.top c.args.bottom c.ranges.top c.ranges.bottom c.spans-2.ensures (ap not c.if-not-spans-2.false)
-
-across : (c : Else-not-spans) → (bad_side c.args.width c.args.left c.args.right ≡ false) → Side c.args.width c.args.left c.args.right
-across c of_good-across = side c.args.width c.args.left c.args.right of_good-across
-
-along : (c : Else-not-spans-2) → (bad_side c.args.height c.args.top c.args.bottom ≡ false) → Side c.args.height c.args.top c.args.bottom
-along c of_good-along = side c.args.height c.args.top c.args.bottom of_good-along
-
-pub overflow_cast-left : goal.overflow_cast-left
-overflow_cast-left c = may_cast c.args.left c.ranges.left _ (across (goal.at.overflow_cast-left c).Else-not-spans (good-across (goal.at.overflow_cast-left c).Else-not-spans)).low_is
-
-pub cell_of-requires : goal.cell_of-requires
-cell_of-requires c = tt
-
-pub overflow_cast-top : goal.overflow_cast-top
-overflow_cast-top c = may_cast c.args.top c.ranges.top _ (along (goal.at.overflow_cast-top c).Else-not-spans-2 (good-along (goal.at.overflow_cast-top c).Else-not-spans-2)).low_is
-
-pub cell_of-requires-2 : goal.cell_of-requires-2
-cell_of-requires-2 c = tt
-
-pub overflow_cast-right : goal.overflow_cast-right
-overflow_cast-right c = may_cast c.args.right c.ranges.right _ (across (goal.at.overflow_cast-right c).Else-not-spans (good-across (goal.at.overflow_cast-right c).Else-not-spans)).high_is
-
-pub overflow_sub-right : goal.overflow_sub-right
-overflow_sub-right c =
-    let s = across (goal.at.overflow_sub-right c).Else-not-spans (good-across (goal.at.overflow_sub-right c).Else-not-spans) in
-    some_pixel (cast c.args.right c.ranges.right _ s.high_is) s.across
-
-pub cell_of-requires-3 : goal.cell_of-requires-3
-cell_of-requires-3 c = tt
-
-pub overflow_cast-bottom : goal.overflow_cast-bottom
-overflow_cast-bottom c = may_cast c.args.bottom c.ranges.bottom _ (along (goal.at.overflow_cast-bottom c).Else-not-spans-2 (good-along (goal.at.overflow_cast-bottom c).Else-not-spans-2)).high_is
-
-pub overflow_sub-bottom : goal.overflow_sub-bottom
-overflow_sub-bottom c =
-    let s = along (goal.at.overflow_sub-bottom c).Else-not-spans-2 (good-along (goal.at.overflow_sub-bottom c).Else-not-spans-2) in
-    some_pixel (cast c.args.bottom c.ranges.bottom _ s.high_is) s.across
-
-pub cell_of-requires-4 : goal.cell_of-requires-4
-cell_of-requires-4 c = tt
-
-pub before-requires : goal.before-requires
-before-requires c = tt
-
-pub before-requires-2 : goal.before-requires-2
-before-requires-2 c = tt
-
-pub after-requires : goal.after-requires
-after-requires c =
-    let s = across (goal.at.after-requires c).Else-not-spans (good-across (goal.at.after-requires c).Else-not-spans) in
-    last_in c.cell_of-3.ensures (cast c.args.right c.ranges.right _ s.high_is) s.across s.wide c.requires.0
-
-pub after-requires-2 : goal.after-requires-2
-after-requires-2 c =
-    let s = along (goal.at.after-requires-2 c).Else-not-spans-2 (good-along (goal.at.after-requires-2 c).Else-not-spans-2) in
-    last_in c.cell_of-4.ensures (cast c.args.bottom c.ranges.bottom _ s.high_is) s.across s.wide c.requires.1
+-- what `spans` tells of a side that it accepts
+good : (size : ℕ) (low high : ℤ) → SFits w32 low → SFits w32 high → {r : Bool} → r ≡ not (bad_side size (to_z w32 (of_z w32 low)) (to_z w32 (of_z w32 high))) → r ≡ true → bad_side size low high ≡ false
+good size low high f g e t = not-true (bad_side size low high) (sym (rw (to_z-of_z w32 low f, to_z-of_z w32 high g) at e) ∙ t)
 
 pub returns : goal.returns
 unfolding RingOf bad_resource ring_box body
 returns c =
-    let left = cell_is c.cell_of.ensures (cast c.args.left c.ranges.left _ (across (goal.at.returns c).Else-not-spans (good-across (goal.at.returns c).Else-not-spans)).low_is) in
-    let top = cell_is c.cell_of-2.ensures (cast c.args.top c.ranges.top _ (along (goal.at.returns c).Else-not-spans-2 (good-along (goal.at.returns c).Else-not-spans-2)).low_is) in
-    let right = last_cell_is c.cell_of-3.ensures (cast c.args.right c.ranges.right _ (across (goal.at.returns c).Else-not-spans (good-across (goal.at.returns c).Else-not-spans)).high_is) in
-    let bottom = last_cell_is c.cell_of-4.ensures (cast c.args.bottom c.ranges.bottom _ (along (goal.at.returns c).Else-not-spans-2 (good-along (goal.at.returns c).Else-not-spans-2)).high_is) in
+    let r = c.args.rectangle in
+    let f : SFits w32 r.left = search rules in
+    let g : SFits w32 r.top = search rules in
+    let h : SFits w32 r.right = search rules in
+    let i : SFits w32 r.bottom = search rules in
+    let across = good c.args.width r.left r.right f h c.spans.ensures (search rules) in
+    let along = good c.args.height r.top r.bottom g i c.spans-2.ensures (search rules) in
+    let columns = side c.args.width r.left r.right across in
+    let rows = side c.args.height r.top r.bottom along in
+    let left = cast r.left f _ columns.low_is in
+    let top = cast r.top g _ rows.low_is in
+    let right = cast r.right h _ columns.high_is in
+    let bottom = cast r.bottom i _ rows.high_is in
     record {
-      good = rw (good-across (goal.at.returns c).Else-not-spans, good-along (goal.at.returns c).Else-not-spans-2);
-      ring = same_box_lem (before_is c.before-2.ensures left) (before_is c.before-3.ensures top) (after_is c.args.width c.after.ensures right) (after_is c.args.height c.after-2.ensures bottom);
-      body = same_box_lem left top right bottom;
+      good = rw (across, along);
+      ring = same_box_lem (omega arith) (omega arith) (omega arith) (omega arith);
+      body = same_box_lem (omega arith) (omega arith) (omega arith) (omega arith);
     }

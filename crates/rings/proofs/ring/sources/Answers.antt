@@ -9,20 +9,17 @@ use Rattle.rings.proofs.ring.sources.Goals as goal
 
 pub loop-k-init : goal.loop-k-init
 unfolding so_far
-loop-k-init c = (omega arith, refl)
+loop-k-init c = refl
 
 pub ring_at-requires : goal.ring_at-requires
 ring_at-requires c = (c.requires.wide, c.requires.high, omega arith)
 
-pub loop-k-smaller : goal.loop-k-smaller
-loop-k-smaller c = omega arith
-
 pub loop-k-preserved : goal.loop-k-preserved
 loop-k-preserved c =
     let good = all_good c.args.width c.args.height c.args.resources.now c.requires.good c.loop-k.k (omega arith) in
-    (omega arith, c.around-boxed.ensures ∙ so_far_around _ _ _ _ _ _ c.loop-k.invariant.1 c.ring_at.ensures good)
+    c.around-boxed.ensures ∙ so_far_around _ _ _ _ _ _ c.loop-k.invariant c.ring_at.ensures good
 
 pub returns : goal.returns
 returns c =
     let e : c.loop-k.k ≡ length c.args.resources.now / 4 = omega arith in
-    c.loop-k.invariant.1 ∙ ap (so_far c.args.width c.args.height c.args.resources.now) e ∙ so_far_all _ _ _ _ c.requires.some
+    c.loop-k.invariant ∙ ap (so_far c.args.width c.args.height c.args.resources.now) e ∙ so_far_all _ _ _ _ c.requires.some
