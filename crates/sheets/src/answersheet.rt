@@ -3,9 +3,11 @@ ghost use Rattle.fournumbers.specs.Corners.{corners_of};
 ghost use Rattle.fieldanswer.specs.Answers.{answer_of};
 ghost use Rattle.sheets.specs.Shown.{AnswerFits, PutsAnswer};
 
-use fieldanswer::Answer;
+use fieldanswer::Made;
 use fournumbers::Corners;
 use page::{Page, lines};
+use refusal::Refusal;
+use targetlines::Field;
 
 // Puts the sheet of a room whose field is made, or the line of its refusal.
 pub fn answered(
@@ -15,7 +17,7 @@ pub fn answered(
     cells: &[u8],
     resources: &[i32],
     targets: Corners,
-    found: Answer,
+    found: Result<Made, Refusal>,
     lanes: &[i16],
 )
     requires { AnswerFits width height cells.now resources.now (corners_of targets) page.old (answer_of found) }
@@ -23,17 +25,17 @@ pub fn answered(
         page.old page.new (answer_of found) }
 {
     match found {
-        Answer::Refused { number, place } => lines::refusal(page, number, place),
-        Answer::Made { window, sweeps } => {
+        Err(refusal) => lines::refusal(page, refusal.number(), refusal.place()),
+        Ok(made) => {
             let mut answers: [u16; 8] = [0; 8];
             let fields = groups::groups(width, height, cells, resources, &mut answers);
             let boxed = targetbox::cells_of(targets);
             let field = Field {
-                window,
+                window: made.window,
                 lanes,
                 resources: resources.len() / 4,
             };
-            sheettext::sheet(page, field, sweeps, boxed, fields, &answers)
+            sheettext::sheet(page, field, made.sweeps, boxed, fields, &answers)
         }
     }
 }

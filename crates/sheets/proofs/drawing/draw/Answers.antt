@@ -29,12 +29,7 @@ after c = let n = c.field-found.new in lent n.lane_values n.walk n.flags n.rows 
 -- what it promises of the target box as it was given
 promised : (c : After-field-found) → let a = c.args in
     FieldPromise reach (input_of a.width a.height a.cells.now 8 a.blockers.now a.resources.now (corners_of a.targets)) zero_field (after c) (answer_of c.field-found.result)
-promised c =
-    let a = c.args in
-    let t = a.targets in
-    let told = c.struct_told-4-1.given in
-    as_given a.width a.height a.cells.now a.blockers.now a.resources.now t.left t.top t.right t.bottom zero_field (after c) (answer_of c.field-found.result)
-    (sfits_of told.0.1) (sfits_of told.1.0.1) (sfits_of told.1.1.0.1) (sfits_of told.1.1.1.0.1) c.field-found.ensures
+promised c = c.field-found.ensures
 
 pub slice_bounds-field-end : goal.slice_bounds-field-end
 slice_bounds-field-end c = sym (length-replicate {A = ℤ} 30752 (pos 0))
