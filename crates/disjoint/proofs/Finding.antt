@@ -3,7 +3,7 @@ use mathlib.Core.Path.{◌≡◌, refl, sym, ◌∙◌, ap}
 use mathlib.Core.Logic.{◌≢◌, ⊎_elim}
 use mathlib.Core.Bool.{false}
 use mathlib.Core.List.{List}
-use Prim.Native.Nat.{ℕ, ◌+◌, ◌≤◌, ◌<◌}
+use Prim.Native.Nat.{ℕ, ◌≤◌, ◌<◌}
 use native.Mathlib.Decide.{ℕ_discrete}
 use native.Mathlib.Omega.{arith}
 use lib.Dec.{eqb, eqb_refl}
@@ -17,13 +17,6 @@ use Rattle.walkgraph.proofs.Ranks.{Sized, rank_9}
 use Rattle.disjoint.specs.Forest.{of, Forest, Begun, Found}
 
 -- ---- each member a class by itself
-
--- entry i is written after those before it
-pub entry_more : (f : ℕ → ℕ) (l : List ℕ) (i : ℕ) → i < length l → ((j : ℕ) → j < i → of l j ≡ f j) → (j : ℕ) → j < i + 1 → of (set l i (f i)) j ≡ f j
-entry_more f l i h e j k =
-    by_cases (ℕ_discrete j i)
-    (λ q. rw q (get_or-set_same l i (f i) 0 h))
-    (λ q. get_or-set_other l i j (f i) 0 q ∙ e j (omega arith))
 
 one_member : (n r : ℕ) → r < n → 1 ≤ tally (λ i. eqb i r) n
 one_member n r h = omega (arith, tally_flip (λ i. false) (λ i. eqb i r) n r h tt (eqb_refl r) (λ i m. sym (ne_eqb i r m)))
