@@ -31,8 +31,8 @@ pub fn expand(
     let index = y * width + x;
     let state = states[index];
     let count = list::listed(states, width, height, x, y, state, directions, picked);
-    for &k in &picked[..count] {
-        let k = usize::from(k);
+    for j in 0..count {
+        let k = picked[j] as usize;
         visit::visit(
             states,
             queue,
