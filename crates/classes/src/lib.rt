@@ -6,9 +6,11 @@ ghost use Rattle.seeds.specs.Sown.{input_of};
 ghost use Rattle.seeds.specs.Sowing.{MaySeed};
 ghost use Rattle.classes.specs.Classes.{FieldsFound};
 
+use disjoint::find::Classes;
 use fieldnumbers;
 use join::search;
 use seeds::seed;
+use visits::queue::Queue;
 
 // Joins the resources that chains of links join, numbers the fields, and clears the other buffers. The answer is how many fields there are.
 pub fn numbers(
@@ -27,17 +29,27 @@ pub fn numbers(
     ensures { FieldsFound (input_of width height cells.now indices.now ends.now)
         states.new queue.new parents.new ranks.new answers.new result }
 {
-    let seeds = seed::seed(
-        width, height, cells, indices, ends, states, queue, parents, ranks,
+    let mut labelled = Queue {
+        points: queue,
+        len: 0,
+    };
+    let mut classes = Classes { parents, ranks };
+    seed::seed(
+        width,
+        height,
+        cells,
+        indices,
+        ends,
+        states,
+        &mut labelled,
+        &mut classes,
     );
     search::search(
         states,
-        queue,
-        parents,
-        ranks,
+        &mut labelled,
+        &mut classes,
         width as usize,
         height as usize,
-        seeds,
     );
-    fieldnumbers::numbered(states, queue, parents, ranks, answers)
+    fieldnumbers::numbered(states, labelled.points, &mut classes, answers)
 }

@@ -1,9 +1,9 @@
 -- Members before any are joined; a find, step by step.
 use mathlib.Core.Path.{◌≡◌, refl, sym, ◌∙◌, ap}
-use mathlib.Core.Logic.{◌≢◌}
+use mathlib.Core.Logic.{◌≢◌, ⊎_elim}
 use mathlib.Core.Bool.{false}
 use mathlib.Core.List.{List}
-use Prim.Native.Nat.{ℕ, ◌+◌, ◌≤◌, ◌<◌}
+use Prim.Native.Nat.{ℕ, ◌≤◌, ◌<◌}
 use native.Mathlib.Decide.{ℕ_discrete}
 use native.Mathlib.Omega.{arith}
 use lib.Dec.{eqb, eqb_refl}
@@ -12,18 +12,11 @@ use lib.Seq.{get_or-set_same, get_or-set_other}
 use borrow.Author.Tests.{ne_eqb}
 use Rattle.walkgraph.proofs.Tests.{by_cases}
 use Rattle.walkgraph.proofs.Tally.{tally, tally_flip}
-use Rattle.walkgraph.proofs.DisjointSet.{Root, top, up, root_top, root_self, short_root, short_ranked}
+use Rattle.walkgraph.proofs.DisjointSet.{Root, top, up, rank_root, root_top, root_self, short_root, short_ranked}
 use Rattle.walkgraph.proofs.Ranks.{Sized, rank_9}
 use Rattle.disjoint.specs.Forest.{of, Forest, Begun, Found}
 
 -- ---- each member a class by itself
-
--- entry i is written after those before it
-pub entry_more : (f : ℕ → ℕ) (l : List ℕ) (i : ℕ) → i < length l → ((j : ℕ) → j < i → of l j ≡ f j) → (j : ℕ) → j < i + 1 → of (set l i (f i)) j ≡ f j
-entry_more f l i h e j k =
-    by_cases (ℕ_discrete j i)
-    (λ q. rw q (get_or-set_same l i (f i) 0 h))
-    (λ q. get_or-set_other l i j (f i) 0 q ∙ e j (omega arith))
 
 one_member : (n r : ℕ) → r < n → 1 ≤ tally (λ i. eqb i r) n
 one_member n r h = omega (arith, tally_flip (λ i. false) (λ i. eqb i r) n r h tt (eqb_refl r) (λ i m. sym (ne_eqb i r m)))
@@ -46,6 +39,14 @@ begun {parents = parents} {ranks = ranks} size long few self zero_rank =
 -- ---- no rank of a root passes 9
 pub root_rank : {p k : List ℕ} → Forest p k → (r : ℕ) → r < length p → of p r ≡ r → of k r ≤ 9
 root_rank f r h e = rank_9 f.sized (omega (arith, f.few)) r h e
+
+-- and so no rank does
+pub rank_few : {p k : List ℕ} → Forest p k → (i : ℕ) → i < length p → of k i ≤ 9
+rank_few f i h =
+    let q = f.sized.«at» i h in
+    let r = rank_root f.ranked h q in
+    let top = root_rank f (f.root i) r.0 (root_top q) in
+    ⊎_elim (λ e. rw e top) (λ l. omega arith) r.1
 
 -- ---- a find
 pub found_top : {p k : List ℕ} {i : ℕ} → Forest p k → i < length p → of p i ≡ i → Found p p k i i

@@ -1,28 +1,41 @@
-// The classes before any are joined, and the root of a member.
+// The classes of a disjoint set: before any are joined, and the root of a member.
 ghost use Rattle.std.specs.Prelude.{◌≡◌, ◌≤◌, ◌<◌, length};
 ghost use Rattle.disjoint.specs.Forest.{Forest, Begun, Found};
+ghost use Rattle.disjoint.specs.Lent.{SameSlices};
 
-// Makes each member a class by itself.
-pub fn begin(parents: &mut [u16], ranks: &mut [u8])
-    requires { (length ranks.old ≡ length parents.old) × (length parents.old ≤ 512) }
-    ensures { Begun parents.old parents.new ranks.new }
-{
-    for (i, parent) in parents.iter_mut().enumerate() {
-        *parent = i as u16;
-    }
-    ranks.fill(0);
+// A disjoint set in two lent slices: the parent of each member, and its rank.
+#[derive(Drop)]
+pub struct Classes<'a> {
+    pub parents: &'a mut [u16],
+    pub ranks: &'a mut [u8],
 }
 
-// The root of a member, found by following parents. The path to it is shortened on the way back.
-pub fn find(parents: &mut [u16], ranks: &[u8], member: usize) -> usize
-    requires { Forest parents.old ranks.now × (member < length parents.old) }
-    ensures { Found parents.old parents.new ranks.now member result }
-{
-    let parent = parents[member] as usize;
-    if parent == member {
-        return member;
+impl<'a> Classes<'a> {
+    // Makes each member a class by itself.
+    pub fn begin(&mut self)
+        requires { (length self.old.ranks.now ≡ length self.old.parents.now) × (length self.old.parents.now ≤ 512) }
+        ensures lent { SameSlices self.old self.new }
+        ensures begun { Begun self.old.parents.now self.new.parents.now self.new.ranks.now }
+    {
+        for (i, parent) in self.parents.iter_mut().enumerate() {
+            *parent = i as u16;
+        }
+        self.ranks.fill(0);
     }
-    let root = find(parents, ranks, parent);
-    parents[member] = root as u16;
-    root
+
+    // The root of a member, found by following parents. The path to it is shortened on the way back.
+    pub fn find(&mut self, member: usize) -> usize
+        requires { Forest self.old.parents.now self.old.ranks.now × (member < length self.old.parents.now) }
+        ensures lent { SameSlices self.old self.new }
+        ensures ranks { self.new.ranks.now ≡ self.old.ranks.now }
+        ensures found { Found self.old.parents.now self.new.parents.now self.old.ranks.now member result }
+    {
+        let parent = self.parents[member] as usize;
+        if parent == member {
+            return member;
+        }
+        let root = self.find(parent);
+        self.parents[member] = root as u16;
+        root
+    }
 }

@@ -5,8 +5,10 @@ mod number;
 
 ghost use Rattle.std.specs.Prelude.{◌≡◌, length};
 ghost use Rattle.disjoint.specs.Forest.{Forest};
+ghost use Rattle.disjoint.specs.Lent.{SameSlices};
 ghost use Rattle.fieldnumbers.specs.NumbersMade.{NumbersMade};
 
+use disjoint::find::Classes;
 use roots;
 use zeros;
 
@@ -14,16 +16,16 @@ use zeros;
 pub fn numbered(
     states: &mut [u16],
     queue: &mut [u32],
-    parents: &mut [u16],
-    ranks: &mut [u8],
+    classes: &mut Classes,
     answers: &mut [u16],
 ) -> usize
-    requires { Forest parents.old ranks.old × (length answers.old ≡ length parents.old) }
-    ensures { NumbersMade parents.old answers.old
-        states.new queue.new parents.new ranks.new answers.new result }
+    requires { Forest classes.old.parents.now classes.old.ranks.now × (length answers.old ≡ length classes.old.parents.now) }
+    ensures lent { SameSlices classes.old classes.new }
+    ensures made { NumbersMade classes.old.parents.now answers.old
+        states.new queue.new classes.new.parents.now classes.new.ranks.now answers.new result }
 {
-    roots::rooted(parents, ranks);
-    let count = number::number(parents, answers);
-    zeros::clear(states, queue, parents, ranks);
+    roots::rooted(classes);
+    let count = number::number(classes.parents, answers);
+    zeros::clear(states, queue, classes.parents, classes.ranks);
     count
 }

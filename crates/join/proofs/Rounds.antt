@@ -277,11 +277,17 @@ module _ {width height : ℕ} {states queue parents ranks over down steps list�
   pub head_queued : head < length queue
   head_queued = let S = G.searching in omega (arith, G.more, queue_in S.turn, S.cells, S.room)
 
-  pub few_cells : length states ≤ 1048576
-  few_cells =
+  few : height * width ≤ 1048576
+  few =
       let S = G.searching in
       let h : height * width ≤ 1024 * width = mul-le-mul_right {m = height} {n = 1024} width S.tall.1 in
-      omega (arith, S.cells, S.wide.1)
+      omega (arith, S.wide.1)
+
+  pub few_queued : length queue ≤ 1048576
+  few_queued = omega (arith, G.searching.room, few)
+
+  pub few_cells : length states ≤ 1048576
+  few_cells = omega (arith, G.searching.cells, few)
 
 module _ {width height : ℕ} {states queue parents ranks over down steps list₀ list : List ℕ} {tail head count : ℕ}
     (G : Turning width height states queue parents ranks over down steps list₀ tail head)

@@ -2,6 +2,7 @@
 use mathlib.Core.Path.{◌≡◌, sym, ◌∙◌}
 use mathlib.Core.List.{List}
 use Prim.Native.Nat.{ℕ, suc, ◌+◌, ◌*◌, ◌≤◌, ◌<◌}
+use native.Mathlib.Nat.{mul-le-mul_right}
 use native.Mathlib.Decide.{dec_le, ℕ_discrete}
 use native.Mathlib.Numerals.{add-one}
 use native.Mathlib.Omega.{arith}
@@ -28,6 +29,12 @@ running_none s = record { searching = s.searching; grown = grown_none s.forest; 
 module _ {width height : ℕ} {states₀ parents₀ states queue parents ranks : List ℕ} {tail head : ℕ} (R : Running width height states₀ parents₀ states queue parents ranks tail head) where
   pub queue_room : tail ≤ length queue
   queue_room = let S = R.searching in omega (arith, queue_in S.turn, S.cells, S.room)
+
+  pub queue_few : length queue ≤ 1048576
+  queue_few =
+      let S = R.searching in
+      let h : height * width ≤ 1024 * width = mul-le-mul_right {m = height} {n = 1024} width S.tall.1 in
+      omega (arith, S.room, S.wide.1)
 
   -- the buffers are as long as at the start
   module _ {queue₀ ranks₀ : List ℕ} {seeds : ℕ} (B : Seeded width height states₀ queue₀ parents₀ ranks₀ seeds) where

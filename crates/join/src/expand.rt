@@ -1,52 +1,48 @@
 // One cell of the queue: all its moves.
 ghost use Rattle.join.specs.Search.{Turning, Expanded};
+ghost use Rattle.visits.specs.Lent.{SameBuffers};
 
+use disjoint::find::Classes;
+use picks::directions::Directions;
 use picks::list;
+use visits::queue::Queue;
 use visits::visit;
 
-// Makes the moves of the queue's cell at head; answers how many entries the queue has then.
+// Makes the moves of the queue's cell at head.
 pub fn expand(
     states: &mut [u16],
-    queue: &mut [u32],
-    parents: &mut [u16],
-    ranks: &mut [u8],
+    queue: &mut Queue,
+    classes: &mut Classes,
     width: usize,
     height: usize,
-    tail: usize,
     head: usize,
-    over: &[usize; 8],
-    down: &[usize; 8],
-    steps: &[usize; 8],
+    directions: &Directions,
     picked: &mut [u8; 9],
-) -> usize
-    requires { Turning width height states.old queue.old parents.old ranks.old over.now down.now steps.now picked.old tail head }
-    ensures { Expanded width height states.old parents.old
-        states.new queue.new parents.new ranks.new picked.new result head }
+)
+    requires { Turning width height states.old queue.old.points.now classes.old.parents.now classes.old.ranks.now
+        directions.now.over directions.now.down directions.now.steps picked.old queue.old.len head }
+    ensures lent { SameBuffers queue.old classes.old queue.new classes.new }
+    ensures expanded { Expanded width height states.old classes.old.parents.now
+        states.new queue.new.points.now classes.new.parents.now classes.new.ranks.now picked.new queue.new.len head }
 {
-    let point = queue[head];
+    let point = queue.points[head];
     let x = (point % 1024) as usize;
     let y = (point / 1024) as usize;
     let index = y * width + x;
     let state = states[index];
-    let count = list::listed(
-        states, width, height, x, y, state, over, down, steps, picked,
-    );
-    let mut end = tail;
+    let count = list::listed(states, width, height, x, y, state, directions, picked);
     for j in 0..count {
         let k = picked[j] as usize;
-        end = visit::visit(
+        visit::visit(
             states,
             queue,
-            parents,
-            ranks,
-            end,
+            classes,
             state,
             index,
-            index + steps[k] - width - 1,
+            index + directions.steps[k] - width - 1,
             point,
-            over[k],
-            down[k],
+            directions.over[k],
+            directions.down[k],
         );
     }
-    end
 }

@@ -1,5 +1,6 @@
 // The moves from a cell that need a look.
 #![tactic(auto)]
 
+pub mod directions;
 pub mod list;
 mod pick;

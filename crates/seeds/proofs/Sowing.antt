@@ -2,12 +2,13 @@
 use mathlib.Core.Path.{◌≡◌, refl, sym, ◌∙◌, ap}
 use mathlib.Core.Logic.{◌≢◌, ◌⊎◌, inl, inr, ⊎_elim}
 use mathlib.Core.List.{List}
-use Prim.Native.Nat.{ℕ, ◌+◌, ◌*◌, ◌/◌, ◌%◌, ◌≤◌, ◌<◌}
+use Prim.Native.Nat.{ℕ, ◌+◌, ◌-◌, ◌*◌, ◌/◌, ◌%◌, ◌≤◌, ◌<◌}
 use native.Mathlib.Decide.{ℕ_discrete}
 use native.Mathlib.Nat.{mod-lt, mul-le-mul, div-add-mod', div-lt_iff_lt-mul}
 use native.Mathlib.Omega.{arith}
 use lib.Arith.{digits_div, digits_mod}
-use lib.ListN.{get_or, length, set}
+use Rattle.std.proofs.lemmas.Grind.{common_steps}
+use lib.ListN.{get_or, length, set, take, drop}
 use Rattle.walkgraph.specs.Walk.{here}
 use Rattle.walkgraph.specs.Links.{Joined, linked}
 use Rattle.walkgraph.specs.FieldsPromise.{JoinInput, start_of, WalkableOn, Access, LinkedBy}
@@ -226,6 +227,10 @@ module _ {i : JoinInput} {width : ℕ} {indices : List ℕ} {r from to : ℕ} (L
   pub few_resources : r < 512
   few_resources = omega (arith, L.resource, L.sowable.few)
 
+  -- its places are among the indices
+  pub list_end : to ≤ length indices
+  list_end = rw (← L.list) (omega (arith, L.high, L.sowable.high r L.resource))
+
   pub wide_enough : (1 ≤ width) × (width ≤ 1024)
   wide_enough = rw (← L.wide) L.sowable.wide
 
@@ -247,6 +252,10 @@ module _ {i : JoinInput} {width : ℕ} {indices : List ℕ} {r from to : ℕ} (L
           Planted states queue parents ranks tail label (get_or indices k 0) (point_of width (get_or indices k 0)) states' queue' parents' ranks' tail' → label ≡ label_of r →
           SownTo i r (k + 1) states' queue' parents' ranks' tail'
       place_sown p e = sown_more L.sowable B L.resource (omega (arith, L.low)) (omega (arith, L.high)) (rw (e, ← L.wide, ← L.list) at p)
+
+-- an index of a part of the indices
+pub place_of : (indices : List ℕ) (from to n : ℕ) → from + n < to → get_or (take (to - from) (drop from indices)) n 0 ≡ get_or indices (from + n) 0
+place_of indices from to n h = grind (arith, common_steps)
 
 -- the lists keep their lengths
 module _ {i : JoinInput} {r s a b : ℕ} {states queue parents ranks states' queue' parents' ranks' : List ℕ} {tail tail' : ℕ} (B : SownTo i r a states queue parents ranks tail)

@@ -7,7 +7,7 @@ pub fn ground(cells: &[u8], states: &mut [u16])
     requires { (length states.old ≡ length cells.now) × ((k : ℕ) → get_or cells.now k 0 ≤ 1) }
     ensures { Grounded cells.now states.old states.new }
 {
-    for k in 0..states.len() {
-        states[k] = cells[k] as u16 * 65535;
+    for (k, state) in states.iter_mut().enumerate() {
+        *state = u16::from(cells[k]) * 65535;
     }
 }

@@ -1,13 +1,15 @@
 // What the search of the fields starts from.
-ghost use Rattle.std.specs.Prelude.{length};
+ghost use Rattle.std.specs.Prelude.{◌≡◌, length};
 ghost use Rattle.seeds.specs.Sown.{input_of, Sown};
 ghost use Rattle.seeds.specs.Sowing.{MaySeed};
+ghost use Rattle.visits.specs.Lent.{SameBuffers};
 
 use crate::{ground, sow};
 use accesslabel;
-use disjoint::find;
+use disjoint::find::Classes;
+use visits::queue::Queue;
 
-// Labels the access cells of all resources on the map's states, each resource a class by itself but where two share a cell; answers how many entries the queue has then.
+// Labels the access cells of all resources on the map's states, each resource a class by itself but where two share a cell. The queue is empty before.
 pub fn seed(
     width: u32,
     height: u32,
@@ -15,23 +17,27 @@ pub fn seed(
     indices: &[u32],
     ends: &[u32],
     states: &mut [u16],
-    queue: &mut [u32],
-    parents: &mut [u16],
-    ranks: &mut [u8],
-) -> usize
-    requires { MaySeed (input_of width height cells.now indices.now ends.now) states.old queue.old parents.old ranks.old }
-    ensures { Sown (input_of width height cells.now indices.now ends.now) (length ends.now)
-        states.new queue.new parents.new ranks.new result }
+    queue: &mut Queue,
+    classes: &mut Classes,
+)
+    requires { MaySeed (input_of width height cells.now indices.now ends.now) states.old queue.old.points.now classes.old.parents.now classes.old.ranks.now × (queue.old.len ≡ 0) }
+    ensures lent { SameBuffers queue.old classes.old queue.new classes.new }
+    ensures sown { Sown (input_of width height cells.now indices.now ends.now) (length ends.now)
+        states.new queue.new.points.now classes.new.parents.now classes.new.ranks.now queue.new.len }
 {
     ground::ground(cells, states);
-    find::begin(parents, ranks);
-    let mut tail: usize = 0;
-    for r in 0..ends.len() {
+    classes.begin();
+    for (r, &end) in ends.iter().enumerate() {
         let from = accesslabel::start_of(ends, r);
-        let to = ends[r] as usize;
-        tail = sow::sow(
-            states, queue, parents, ranks, width, indices, r, from, to, tail,
+        sow::sow(
+            states,
+            queue,
+            classes,
+            width,
+            indices,
+            r,
+            from,
+            end as usize,
         );
     }
-    tail
 }

@@ -1,40 +1,37 @@
 // The access cells of one resource.
 ghost use Rattle.seeds.specs.Sowing.{MaySow, Sows};
+ghost use Rattle.visits.specs.Lent.{SameBuffers};
 
 use accesslabel;
+use disjoint::find::Classes;
 use visits::plant;
+use visits::queue::Queue;
 
-// Labels the access cells of resource r, the places from..to; answers how many entries the queue has then.
+// Labels the access cells of resource r, the places from..to.
 pub fn sow(
     states: &mut [u16],
-    queue: &mut [u32],
-    parents: &mut [u16],
-    ranks: &mut [u8],
+    queue: &mut Queue,
+    classes: &mut Classes,
     width: u32,
     indices: &[u32],
     r: usize,
     from: usize,
     to: usize,
-    tail: usize,
-) -> usize
-    requires { MaySow width indices.now r from to states.old queue.old parents.old ranks.old tail }
-    ensures { Sows width indices.now r from to states.old queue.old parents.old ranks.old tail
-        states.new queue.new parents.new ranks.new result }
+)
+    requires { MaySow width indices.now r from to states.old queue.old.points.now classes.old.parents.now classes.old.ranks.now queue.old.len }
+    ensures lent { SameBuffers queue.old classes.old queue.new classes.new }
+    ensures sown { Sows width indices.now r from to states.old queue.old.points.now classes.old.parents.now classes.old.ranks.now queue.old.len
+        states.new queue.new.points.now classes.new.parents.now classes.new.ranks.now queue.new.len }
 {
     let label = accesslabel::label_of(r);
-    let mut end = tail;
-    for k in from..to {
-        let index = indices[k];
-        end = plant::plant(
+    for &index in &indices[from..to] {
+        plant::plant(
             states,
             queue,
-            parents,
-            ranks,
-            end,
+            classes,
             label,
             index as usize,
             accesslabel::point_of(index, width),
         );
     }
-    end
 }

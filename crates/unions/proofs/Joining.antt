@@ -121,6 +121,15 @@ united_of : {p q k : List ℕ} {i j i' j' : ℕ} → i ≡ i' → j ≡ j' → U
 united_of e f u = rw (e, f) at u
 
 -- ---- after two finds
+-- both, with the ranks as they stand after them
+pub record Finds (p p₁ p₂ k : List ℕ) (i a j b : ℕ) : Type 0 where
+  pub forest : Forest p k
+  pub first : Found p p₁ k i a
+  pub second : Found p₁ p₂ k j b
+
+pub finds : {p p₁ p₂ k k₁ k₂ : List ℕ} {i a j b : ℕ} → Forest p k → k₁ ≡ k → k₂ ≡ k₁ → Found p p₁ k i a → Found p₁ p₂ k₁ j b → Finds p p₁ p₂ k₂ i a j b
+finds f e g x y = record { forest = rw (sym (g ∙ e)) at f; first = rw (sym (g ∙ e)) at x; second = rw (sym g) at y }
+
 module _ {p p₁ p₂ k : List ℕ} {i j a b : ℕ} (f : Forest p k) (x : Found p p₁ k i a) (y : Found p₁ p₂ k j b) (in-i : i < length p) (in-j : j < length p) where
   kept_both : {c s : ℕ} → Root (of p) c s → Root (of p₂) c s
   kept_both q = y.kept (x.kept q)

@@ -2,3 +2,4 @@
 pub mod Visits
 pub mod Plants
 pub mod SearchState
+pub mod Lent

@@ -2,4 +2,5 @@
 #![tactic(auto)]
 
 pub mod plant;
+pub mod queue;
 pub mod visit;

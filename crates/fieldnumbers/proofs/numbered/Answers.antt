@@ -6,7 +6,7 @@ pub rooted-requires : goal.rooted-requires
 rooted-requires c = c.requires.0
 
 pub number-count-requires : goal.number-count-requires
-number-count-requires c = let g = c.rooted.ensures in (g.rooted, c.requires.1 ∙ sym g.size)
+number-count-requires c = let g = c.rooted.ensures.rooted in (g.rooted, c.requires.1 ∙ sym g.size)
 
-pub returns : goal.returns
-returns c = record { roots = _; rooted = c.rooted.ensures; numbers = c.number-count.ensures; cleared = c.clear.ensures }
+pub returns-clause-made : goal.returns-clause-made
+returns-clause-made c = record { roots = _; rooted = c.rooted.ensures.rooted; numbers = c.number-count.ensures; cleared = c.clear.ensures }

@@ -1,6 +1,5 @@
 -- `seeds::seed::seed`: the states, the classes, and the lists that the loop passed.
-use Prim.Native.Nat.{◌-◌, ◌≤◌}
-use lib.ListN.{length}
+use Rattle.visits.specs.Lent.{SameBuffers}
 use Rattle.walkgraph.specs.FieldsPromise.{start_of}
 use Rattle.seeds.specs.Sown.{input_of}
 use Rattle.seeds.specs.Sowing.{SownTo}
@@ -8,8 +7,5 @@ use Rattle.seeds.proofs.seed.seed.Given as goal
 
 abbrev pub invariant-loop-r : goal.invariant-loop-r
 invariant-loop-r l =
-    (l.r ≤ length l.ends) × SownTo (input_of l.width l.height l.cells l.indices l.ends) l.r (start_of l.ends l.r) l.states l.queue l.parents l.ranks l.tail
-
-abbrev pub decreases-loop-r : goal.decreases-loop-r
-decreases-loop-r l =
-    length l.ends - l.r
+    SameBuffers l.initial.queue l.initial.classes l.queue l.classes
+    × SownTo (input_of l.width l.height l.cells l.indices l.ends) l.r (start_of l.ends l.r) l.states l.queue.points.now l.classes.parents.now l.classes.ranks.now l.queue.len

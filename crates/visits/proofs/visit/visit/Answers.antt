@@ -24,8 +24,8 @@ overflow_sub-index c = c.requires.0.second
 pub open-requires : goal.open-requires
 open-requires c = let p = c.requires.1 in (p.next_in, p.first_in, p.second_in)
 
-pub returns-then-not-open : goal.returns-then-not-open
-returns-then-not-open c = shut (is_shut _ c.«open».ensures (ap not c.if-not-open.true))
+pub returns-then-not-open-clause-visited : goal.returns-then-not-open-clause-visited
+returns-then-not-open-clause-visited c = shut (is_shut _ c.«open».ensures (ap not c.if-not-open.true))
 
 pub offset_bounds-states-next : goal.offset_bounds-states-next
 offset_bounds-states-next c = omega (arith, c.requires.0.there)
@@ -44,8 +44,8 @@ meet-requires c =
     let p = c.requires.1 in
     (p.forest, p.label, p.labels (is_open _ c.«open».ensures (ap not c.if-not-open.false)) c.if-states-next.true)
 
-pub returns-then-states-next : goal.returns-then-states-next
-returns-then-states-next c = met (is_open _ c.«open».ensures (ap not c.if-not-open.false)) c.if-states-next.true c.meet.ensures
+pub returns-then-states-next-clause-visited : goal.returns-then-states-next-clause-visited
+returns-then-states-next-clause-visited c = met (is_open _ c.«open».ensures (ap not c.if-not-open.false)) c.if-states-next.true c.meet.ensures.met
 
 pub overflow_add-states : goal.overflow_add-states
 overflow_add-states c = omega (arith, c.requires.1.label.last, c.requires.1.forest.few)
@@ -56,32 +56,28 @@ offset_bounds-states-next-2 c = omega (arith, c.requires.0.there)
 pub bounds-states-next-2 : goal.bounds-states-next-2
 bounds-states-next-2 c = c.requires.1.next_in
 
-room : (c : Else-states-next) → c.args.tail < length c.args.queue.now
+room : (c : Else-states-next) → c.args.queue.now.len < length c.args.queue.now.points.now
 room c = c.requires.1.room (is_open _ c.«open».ensures (ap not c.if-not-open.false)) c.if-states-next.false
 
-pub overflow_mul-queue : goal.overflow_mul-queue
-overflow_mul-queue c = omega (arith, c.requires.0.along)
+pub overflow_mul-down : goal.overflow_mul-down
+overflow_mul-down c = omega (arith, c.requires.0.along)
 
-pub overflow_add-queue : goal.overflow_add-queue
-overflow_add-queue c = omega (arith, c.requires.0.across, c.requires.0.along)
+pub overflow_add-down : goal.overflow_add-down
+overflow_add-down c = omega (arith, c.requires.0.across, c.requires.0.along)
 
-pub overflow_cast-queue : goal.overflow_cast-queue
-overflow_cast-queue c = omega (arith, c.requires.0.across, c.requires.0.along)
+pub overflow_cast-down : goal.overflow_cast-down
+overflow_cast-down c = omega (arith, c.requires.0.across, c.requires.0.along)
 
-pub overflow_add-queue-2 : goal.overflow_add-queue-2
-overflow_add-queue-2 c = omega (arith, c.requires.0.across, c.requires.0.along, c.requires.0.place)
+pub overflow_add-point : goal.overflow_add-point
+overflow_add-point c = omega (arith, c.requires.0.across, c.requires.0.along, c.requires.0.place)
 
-pub overflow_sub-queue : goal.overflow_sub-queue
-overflow_sub-queue c = c.requires.0.low
+pub overflow_sub-point : goal.overflow_sub-point
+overflow_sub-point c = c.requires.0.low
 
-pub offset_bounds-queue-tail : goal.offset_bounds-queue-tail
-offset_bounds-queue-tail c = omega (arith, room (goal.at.offset_bounds-queue-tail c).Else-states-next, c.well_formed.1.0.1)
+pub push-requires : goal.push-requires
+push-requires c = room (goal.at.push-requires c).Else-states-next
 
-pub bounds-queue-tail : goal.bounds-queue-tail
-bounds-queue-tail c = room (goal.at.bounds-queue-tail c).Else-states-next
-
-pub overflow_add-result : goal.overflow_add-result
-overflow_add-result c = omega (arith, room (goal.at.overflow_add-result c).Else-states-next, c.well_formed.1.0.0)
-
-pub returns : goal.returns
-returns c = labelled (is_open _ c.«open».ensures (ap not c.if-not-open.false)) c.if-states-next.false
+pub returns-clause-visited : goal.returns-clause-visited
+returns-clause-visited c =
+    let q = c.push.ensures in
+    rw (q.points, q.len) (labelled (is_open _ c.«open».ensures (ap not c.if-not-open.false)) c.if-states-next.false)

@@ -1,0 +1,9 @@
+// The eight directions.
+
+// The eight directions as a table: by how many columns and rows a move leads from the cell before, and how far along the states.
+#[derive(Drop)]
+pub struct Directions {
+    pub over: [usize; 8],
+    pub down: [usize; 8],
+    pub steps: [usize; 8],
+}
