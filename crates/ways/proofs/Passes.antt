@@ -8,16 +8,16 @@ use native.Mathlib.Numerals.{add-one}
 use native.Mathlib.Omega.{arith}
 use lib.IntN.{ℤ}
 use lib.ListN.{length}
-use lib.Seq.{paste, length-paste}
+use lib.Seq.{paste}
 use Rattle.walkgraph.specs.Lists.{placed}
-use Rattle.walkgraph.proofs.Lists.{placed_in, placed_above}
+use Rattle.walkgraph.proofs.Lists.{placed_in}
 use Rattle.lane.specs.Levels.{level_at}
 use Rattle.strip.specs.Strips.{lanes_at, HasLevels}
 use Rattle.strip.specs.Marks.{kept_at, HasMarks}
 use Rattle.strip.proofs.Strips.{levels_at}
 use Rattle.strip.proofs.Placed.{levels_paste}
-use Rattle.ways.specs.Row.{out_levels, out_cell, out_row, back_levels, back_cell, back_row}
-use Rattle.ways.specs.Buffers.{CellFits, RowFits, BackFits}
+use Rattle.ways.specs.Row.{out_cell, out_row, back_cell, back_row}
+use Rattle.ways.specs.Buffers.{RowFits, BackFits}
 use Rattle.ways.proofs.Marked.{Marked, marked_next}
 use Rattle.ways.proofs.Lanewise.{out_above, back_below}
 
