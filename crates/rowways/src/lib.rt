@@ -22,17 +22,15 @@ pub fn out<const LANES: usize>(
     requires { Gates gates.now × LaneCount LANES × RowFits LANES first feeding count (length lanes.old) (length flags.now) }
     ensures { OutDone LANES (flag_at flags.now) down first feeding count (level_at lanes.old) (level_at lanes.new) result }
 {
-    let mut i = first * LANES;
-    let mut o = feeding * LANES;
     let mut same = [-1i16; LANES];
-    let mut beside = strip::load::<LANES>(lanes, i - LANES);
+    let mut beside = strip::load::<LANES>(lanes, (first - 1) * LANES);
     for n in 0..count {
+        let i = (first + n) * LANES;
+        let o = (feeding + n) * LANES;
         let new = cell::out(lanes, gates, i, o, flags[first + n], down, beside);
         let still = strip::put(lanes, i, new, same);
         same = still;
         beside = new;
-        i += LANES;
-        o += LANES;
     }
     strip::changed(same)
 }
@@ -48,14 +46,12 @@ pub fn back<const LANES: usize>(
     requires { Gates gates.now × LaneCount LANES × BackFits LANES past count (length lanes.old) (length flags.now) }
     ensures { BackDone LANES (flag_at flags.now) past count (level_at lanes.old) (level_at lanes.new) result }
 {
-    let mut i = past * LANES;
-    let mut f = past;
     let mut same = [-1i16; LANES];
-    let mut beside = strip::load::<LANES>(lanes, i);
+    let mut beside = strip::load::<LANES>(lanes, past * LANES);
     for n in 0..count {
-        i -= LANES;
-        f -= 1;
-        let new = strip::back(lanes, gates, i, beside, gate::place(flags[f]));
+        let cell = past - 1 - n;
+        let i = cell * LANES;
+        let new = strip::back(lanes, gates, i, beside, gate::place(flags[cell]));
         let still = strip::put(lanes, i, new, same);
         same = still;
         beside = new;

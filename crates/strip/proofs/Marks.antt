@@ -1,21 +1,15 @@
 -- Marks of change: a store more, and what is kept of them are marks.
-use mathlib.Core.Path.{◌≡◌, refl, ap}
-use mathlib.Core.Logic.{◌⊎◌, inl, inr}
+use mathlib.Core.Path.{◌≡◌, refl}
+use mathlib.Core.Logic.{inr}
 use mathlib.Core.List.{List}
-use Prim.Native.Nat.{ℕ, ◌+◌, ◌<◌, max}
-use native.Mathlib.Omega.{arith}
+use Prim.Native.Nat.{ℕ, ◌+◌, ◌<◌}
 use native.Mathlib.Decide.{ℕ_discrete}
-use lib.IntN.{ℤ, pos, negsuc}
+use lib.IntN.{ℤ, pos}
 use lib.ListN.{length, get_or, set}
-use lib.Dec.{eqb}
-use borrow.Author.Tests.{eqb-true, eqb-false}
-use mir.Syntax.{w16}
-use mir.Val.{SFits, to_z, of_z}
 use Rattle.walkgraph.proofs.Tests.{by_cases}
-use Rattle.lane.specs.Levels.{level, level_at}
-use Rattle.lane.proofs.Levels.{level_one}
+use Rattle.lane.specs.Levels.{level_at}
 use Rattle.onelane.proofs.Mark.{kept_same, kept_other}
-use Rattle.strip.specs.Marks.{kept_at, HasMarks, AreMarks, IsChanged}
+use Rattle.strip.specs.Marks.{kept_at, HasMarks, AreMarks}
 use Rattle.strip.proofs.Entries.{one_more}
 
 -- a store more

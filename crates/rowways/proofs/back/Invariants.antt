@@ -1,6 +1,6 @@
 -- `rowways::back`: after n cells.
 use mathlib.Core.Path.{◌≡◌}
-use Prim.Native.Nat.{◌+◌, ◌-◌, ◌≤◌}
+use Prim.Native.Nat.{◌+◌, ◌-◌, ◌*◌, ◌≤◌}
 use lib.ListN.{length}
 use Rattle.lane.specs.Levels.{level_at}
 use Rattle.strip.specs.Strips.{HasLevels}
@@ -10,4 +10,4 @@ use Rattle.rowways.proofs.back.Given as goal
 
 abbrev pub invariant-loop-n : goal.invariant-loop-n
 invariant-loop-n g l =
-    (l.n ≤ l.count) × (length l.lanes ≡ length l.initial.lanes) × BackTo g.row.LANES (flag_at l.flags) l.past (level_at l.initial.lanes) l.n l.i l.f (level_at l.lanes) l.same × HasLevels g.row.LANES l.beside (λ k. level_at l.lanes (l.i + k))
+    (l.n ≤ l.count) × (length l.lanes ≡ length l.initial.lanes) × BackTo g.row.LANES (flag_at l.flags) l.past (level_at l.initial.lanes) l.n (level_at l.lanes) l.same × HasLevels g.row.LANES l.beside (λ k. level_at l.lanes ((l.past - l.n) * g.row.LANES + k))

@@ -1,6 +1,6 @@
 -- `rowways::out`: after n cells.
 use mathlib.Core.Path.{◌≡◌}
-use Prim.Native.Nat.{◌+◌, ◌-◌, ◌≤◌}
+use Prim.Native.Nat.{◌+◌, ◌-◌, ◌*◌, ◌≤◌}
 use lib.ListN.{length}
 use Rattle.lane.specs.Levels.{level_at}
 use Rattle.strip.specs.Strips.{HasLevels}
@@ -10,4 +10,4 @@ use Rattle.rowways.proofs.out.Given as goal
 
 abbrev pub invariant-loop-n : goal.invariant-loop-n
 invariant-loop-n g l =
-    (l.n ≤ l.count) × (length l.lanes ≡ length l.initial.lanes) × OutTo g.row.LANES (flag_at l.flags) l.down l.first l.feeding (level_at l.initial.lanes) l.n l.i l.o (level_at l.lanes) l.same × HasLevels g.row.LANES l.beside (λ k. level_at l.lanes (l.i - g.row.LANES + k))
+    (l.n ≤ l.count) × (length l.lanes ≡ length l.initial.lanes) × OutTo g.row.LANES (flag_at l.flags) l.down l.first l.feeding (level_at l.initial.lanes) l.n (level_at l.lanes) l.same × HasLevels g.row.LANES l.beside (λ k. level_at l.lanes ((l.first + l.n) * g.row.LANES - g.row.LANES + k))

@@ -1,5 +1,5 @@
 -- `strip::back`: the first k lanes have the levels of the way back.
-use mathlib.Core.Path.{refl, ap, ◌∙◌}
+use mathlib.Core.Path.{ap, ◌∙◌}
 use Prim.Native.Nat.{ℕ}
 use native.Mathlib.Omega.{arith}
 use borrow.Author.Rules.{sfits_of}

@@ -1,11 +1,10 @@
 -- `versions::set`: the part that was filled, put back.
-use mathlib.Core.Path.{◌≡◌, refl, sym, ap, ◌∙◌}
-use Prim.Native.Nat.{ℕ, ◌+◌, ◌-◌}
+use mathlib.Core.Path.{◌≡◌, ap, ◌∙◌}
+use Prim.Native.Nat.{◌+◌, ◌-◌}
 use native.Mathlib.Omega.{arith}
 use lib.ListN.{length, get_or, replicate, drop, length-drop}
 use lib.Seq.{length-take-le}
-use borrow.Author.Rules.{rules}
-use Rattle.std.proofs.lemmas.List.{length-replicate, get_or-replicate}
+use Rattle.std.proofs.lemmas.List.{get_or-replicate}
 use Rattle.window.proofs.Fills.{part_back}
 use Rattle.versions.proofs.set.Goals as goal
 
