@@ -22,8 +22,9 @@ use answernumbers;
 use answernumbers::FieldAnswer;
 use countanswer;
 use countanswer::CountAnswer;
-use field;
+use field::buffers::Buffers;
 use fields;
+use fournumbers::Corners;
 use reading::Part;
 use recordreading;
 use sheets;
@@ -53,6 +54,21 @@ pub extern "C" fn cerandool_field(
         (lent lane_values.old walk.old flags.old rows.old versions.old pulled_down.old pulled_up.old)
         (lent lane_values.new walk.new flags.new rows.new versions.new pulled_down.new pulled_up.new) result }
 {
+    let targets = Corners {
+        left,
+        top,
+        right,
+        bottom,
+    };
+    let mut buffers = Buffers {
+        lanes: lane_values,
+        walk,
+        flags,
+        rows,
+        versions,
+        pulled_down,
+        pulled_up,
+    };
     let answer = field::field(
         width,
         height,
@@ -60,17 +76,8 @@ pub extern "C" fn cerandool_field(
         lanes,
         blockers,
         resources,
-        left,
-        top,
-        right,
-        bottom,
-        lane_values,
-        walk,
-        flags,
-        rows,
-        versions,
-        pulled_down,
-        pulled_up,
+        targets,
+        &mut buffers,
     );
     answernumbers::field_numbers(answer)
 }
@@ -106,7 +113,13 @@ pub extern "C" fn cerandool_access(
 ) -> CountAnswer
     ensures { AccessExported width height cells.now (corners left top right bottom) out.old out.new result }
 {
-    let answer = access::call::access(width, height, cells, left, top, right, bottom, out);
+    let rectangle = Corners {
+        left,
+        top,
+        right,
+        bottom,
+    };
+    let answer = access::call::access(width, height, cells, rectangle, out);
     countanswer::numbers(answer)
 }
 
