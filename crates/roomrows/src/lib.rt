@@ -23,6 +23,7 @@ fn store(row: &[u8], cells: &mut [u8])
     requires { length row.now ≡ length cells.old }
     ensures { cells.new ≡ map cell_of row.now }
 {
+    // Stays: over `cells.iter_mut().zip(row)` the proof did not close: after such a loop nothing is known of the cells.
     for (k, stored) in cells.iter_mut().enumerate() {
         *stored = cell(row[k]);
     }
