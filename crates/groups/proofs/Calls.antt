@@ -8,6 +8,9 @@ use native.Mathlib.Omega.{arith}
 use lib.IntN.{ℤ}
 use lib.ListN.{length, replicate, length-replicate}
 use borrow.Author.Tests.{le-leb, le-ltb, eq-eqb}
+use Rattle.std.proofs.Common.{rules, Result, Ok, Err, IsOk}
+use Rattle.refusal.specs.declared.Refusal.{Refusal}
+use Rattle.countanswer.specs.Answers.{listed_of, joined_of}
 use Rattle.walkgraph.specs.Refusals.{accepted, bad_fours, first_bad_resource, short_join}
 use Rattle.walkgraph.specs.AccessPromise as access
 use Rattle.walkgraph.specs.FieldsPromise.{JoinInput, JoinLent, lengths_of, fields_verdict, FieldsPromise}
@@ -51,8 +54,13 @@ module _ {w h : ℕ} {cells : List ℕ} {l : List ℤ} {answers : List ℕ} (f :
       (omega (arith, area (length l / 4) (h * w) few f.size, length-replicate {A = ℕ} 28800 0)) (omega (arith, few, length-replicate {A = ℕ} 8 0)) ∙
       sym (passes 3 0 (fours_more 8 512 l (omega arith) f.fours) (passes 4 _ (le-ltb (first_bad_resource w h l) (length l / 4) (omega (arith, f.good))) refl))
 
-  pub lists_made : {after : ListsLent} {number place : ℕ} → AccessListsPromise w h cells l zero_lists after (access.refusal number place) → ⊥
+  lists_made : {after : ListsLent} {number place : ℕ} → AccessListsPromise w h cells l zero_lists after (access.refusal number place) → ⊥
   lists_made (lists.refuses e) = clash e lists_accepted
+
+  pub lists_ok : {after : ListsLent} (answer : Result ℕ Refusal) → AccessListsPromise w h cells l zero_lists after (listed_of answer) → IsOk answer
+  unfolding listed_of
+  lists_ok (Ok count) p = search rules
+  lists_ok (Err refusal) p = absurd (lists_made p)
 
   -- ---- the fields call
   pub join_accepted : {after : ListsLent} {count : ℕ} → AccessListsPromise w h cells l zero_lists after (access.listed count) → fields_verdict (join_input w h cells l after count) (zero_join answers) ≡ accepted
@@ -68,8 +76,13 @@ module _ {w h : ℕ} {cells : List ℕ} {l : List ℤ} {answers : List ℕ} (f :
       list_room = omega (arith, few, length-replicate {A = ℕ} 8 0)
 
 -- a call that is accepted is not refused
-pub join_made : (i : JoinInput) (before : JoinLent) {after : JoinLent} {number place : ℕ} → fields_verdict i before ≡ accepted → FieldsPromise i before after (join.refusal number place) → ⊥
+join_made : (i : JoinInput) (before : JoinLent) {after : JoinLent} {number place : ℕ} → fields_verdict i before ≡ accepted → FieldsPromise i before after (join.refusal number place) → ⊥
 join_made i before e (join.refuses p) = clash p e
+
+pub join_ok : (i : JoinInput) (before : JoinLent) {after : JoinLent} (answer : Result ℕ Refusal) → fields_verdict i before ≡ accepted → FieldsPromise i before after (joined_of answer) → IsOk answer
+unfolding joined_of
+join_ok i before (Ok count) e p = search rules
+join_ok i before (Err refusal) e p = absurd (join_made i before e p)
 
 pub join_found : (i : JoinInput) (answers : List ℕ) {after : JoinLent} {groups : ℕ} → FieldsPromise i (zero_join answers) after (join.joined groups) → Joins i answers after.answers groups
 join_found i answers {after = d} p = record { left = d; promise = p; answers = refl }

@@ -28,7 +28,7 @@ fn joined(
     let mut queue: [u32; 3600] = [0; 3600];
     let mut parents: [u16; 8] = [0; 8];
     let mut ranks: [u8; 8] = [0; 8];
-    let found = call::fields(
+    call::fields(
         width,
         height,
         cells,
@@ -39,11 +39,8 @@ fn joined(
         &mut parents,
         &mut ranks,
         answers,
-    );
-    let Ok(count) = found else {
-        return 0;
-    };
-    count
+    )
+    .unwrap()
 }
 
 // How many fields the resources of an accepted room form, and the field of each.
@@ -60,9 +57,7 @@ pub fn groups(
     let mut indices = roomlimits::access_cells();
     let mut ends: [u32; 8] = [0; 8];
     let found = lists::access_lists(width, height, cells, resources, &mut indices, &mut ends);
-    let Ok(count) = found else {
-        return 0;
-    };
+    let count = found.unwrap();
     joined(
         width,
         height,

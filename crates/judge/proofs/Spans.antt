@@ -1,6 +1,6 @@
 -- The target box along one axis, from cell low to cell high on a map of size columns or rows: as the code tests it.
 use mathlib.Core.Path.{◌≡◌, refl, sym}
-use mathlib.Core.Bool.{Bool, not, ◌&&◌}
+use mathlib.Core.Bool.{not, ◌&&◌}
 use Prim.Native.Nat.{ℕ}
 use native.Mathlib.Omega.{arith}
 use lib.IntN.{ℤ, pos, negsuc, nat_abs}
@@ -24,7 +24,3 @@ good size (negsuc a) high = refl
 module _ (size : ℕ) (low high : ℤ) (f : SFits w32 low) (g : SFits w32 high) where
   pub good_span : not (bad_span size low high) ≡ (le_z (pos 0) (to_z w32 (of_z w32 low)) && le_z (to_z w32 (of_z w32 low)) (to_z w32 (of_z w32 high)) && ltb (nat_abs (to_z w32 (of_z w32 high))) size)
   good_span = rw (to_z-of_z w32 low f, to_z-of_z w32 high g) (good size low high)
-
-  -- what a caller of `within` learns
-  pub span_told : {ok : Bool} → ok ≡ not (bad_span size (to_z w32 (of_z w32 low)) (to_z w32 (of_z w32 high))) → ok ≡ not (bad_span size low high)
-  span_told e = rw (to_z-of_z w32 low f, to_z-of_z w32 high g) at e

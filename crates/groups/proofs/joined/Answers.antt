@@ -6,7 +6,7 @@ use Rattle.seeds.specs.Sown.{input_of}
 use Rattle.usedparts.specs.Lent.{lent}
 use Rattle.countanswer.specs.Answers.{joined_of}
 use Rattle.groups.specs.Groups.{zero_join}
-use Rattle.groups.proofs.Calls.{join_made, join_found}
+use Rattle.groups.proofs.Calls.{join_ok, join_found}
 use Rattle.groups.proofs.joined.Goals as goal
 
 pub slice_bounds-fields-end : goal.slice_bounds-fields-end
@@ -21,12 +21,11 @@ slice_bounds-fields-end-3 c = sym (length-replicate {A = ℕ} 8 0)
 pub slice_bounds-fields-end-4 : goal.slice_bounds-fields-end-4
 slice_bounds-fields-end-4 c = sym (length-replicate {A = ℕ} 8 0)
 
-pub returns-in_default : goal.returns-in_default
-unfolding joined_of
-returns-in_default c =
-    absurd (join_made (let a = c.args in input_of a.width a.height a.cells.now a.indices.now a.ends.now) (zero_join c.args.answers.now) {after = (let l = c.fields-found.new in lent l.states l.queue l.parents l.ranks l.answers)} c.requires (rw c.in_default.is at c.fields-found.ensures))
+pub unwrap-requires : goal.unwrap-requires
+unwrap-requires c =
+    join_ok (let a = c.args in input_of a.width a.height a.cells.now a.indices.now a.ends.now) (zero_join c.args.answers.now) {after = (let l = c.fields.new in lent l.states l.queue l.parents l.ranks l.answers)} c.fields.result c.requires c.fields.ensures
 
 pub returns : goal.returns
 unfolding joined_of
 returns c =
-    join_found (let a = c.args in input_of a.width a.height a.cells.now a.indices.now a.ends.now) c.args.answers.now {after = (let l = c.fields-found.new in lent l.states l.queue l.parents l.ranks l.answers)} (rw c.in-Ok.is at c.fields-found.ensures)
+    join_found (let a = c.args in input_of a.width a.height a.cells.now a.indices.now a.ends.now) c.args.answers.now {after = (let l = c.fields.new in lent l.states l.queue l.parents l.ranks l.answers)} (rw c.unwrap.ensures at c.fields.ensures)
