@@ -1,18 +1,11 @@
 -- What is put on the page is the sheet of the room, or the line of its refusal.
-use mathlib.Core.List.{List}
 use Prim.Native.Nat.{ℕ, ◌≤◌}
 use native.Mathlib.Omega.{arith}
-use lib.IntN.{ℤ}
 use lib.ListN.{length}
-use mir.Syntax.{w32}
-use mir.Val.{SFits, to_z, of_z}
-use mir.ValLaws.{to_z-of_z}
 use Rattle.walkgraph.specs.Buffers.{Lent}
 use Rattle.walkgraph.specs.Refusals.{FieldInput}
 use Rattle.walkgraph.specs.Promise.{FieldAnswer, FieldPromise, refuses, nothing, makes}
 use Rattle.cells.specs.Boxes.{reach}
-use Rattle.rings.specs.Rings.{corners}
-use Rattle.plan.specs.Plans.{input_of}
 use Rattle.page.specs.declared.Page.{Page}
 use Rattle.page.specs.Puts.{Puts, Room}
 use Rattle.page.specs.Lines.{refusal_line}
@@ -20,13 +13,6 @@ use Rattle.page.proofs.Lengths.{refusal_most}
 use Rattle.sheettext.specs.Sheets.{PutsWithin}
 use Rattle.sheets.specs.Shown.{SheetFits, PutsAnswer, puts_line, puts_shown}
 use Rattle.sheets.specs.Drawings.{zero_field, refused_line, drawn, PutsDrawing}
-
--- ---- what the field call promises of a target box as it was given, not as it is read from its bits
-module _ (w h : ℕ) (cells : List ℕ) (blockers resources : List ℤ) (left top right bottom : ℤ) (before after : Lent) (answer : FieldAnswer) where
-  pub as_given : SFits w32 left → SFits w32 top → SFits w32 right → SFits w32 bottom →
-      FieldPromise reach (input_of w h cells 8 blockers resources (corners (to_z w32 (of_z w32 left)) (to_z w32 (of_z w32 top)) (to_z w32 (of_z w32 right)) (to_z w32 (of_z w32 bottom)))) before after answer →
-      FieldPromise reach (input_of w h cells 8 blockers resources (corners left top right bottom)) before after answer
-  as_given a b c d p = rw (to_z-of_z w32 left a, to_z-of_z w32 top b, to_z-of_z w32 right c, to_z-of_z w32 bottom d) at p
 
 -- ---- what the field call answers
 module _ (i : FieldInput) {page done : Page} where

@@ -3,7 +3,6 @@ use mathlib.Core.Path.{refl, sym}
 use Prim.Native.Nat.{ℕ}
 use lib.IntN.{ℤ, pos}
 use lib.ListN.{length-replicate}
-use borrow.Author.Rules.{sfits_of}
 use Rattle.walkgraph.specs.Buffers.{Lent}
 use Rattle.walkgraph.specs.Refusals.{FieldInput}
 use Rattle.walkgraph.specs.Promise.{FieldPromise}
@@ -14,7 +13,7 @@ use Rattle.make.specs.Makes.{lent}
 use Rattle.fieldanswer.specs.Answers.{answer_of}
 use Rattle.sheets.specs.Drawings.{zero_field}
 use Rattle.sheets.proofs.Accepted.{can_answer}
-use Rattle.sheets.proofs.RoomDrawn.{as_given, answer_put}
+use Rattle.sheets.proofs.RoomDrawn.{answer_put}
 use Rattle.sheets.proofs.drawing.draw.Goals.{Start, After-field-found}
 use Rattle.sheets.proofs.drawing.draw.Goals as goal
 
