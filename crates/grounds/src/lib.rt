@@ -12,11 +12,9 @@ ghost use Rattle.start.specs.Hits.{started_levels, lanes_hit};
 ghost use Rattle.grounds.specs.Grounds.{GroundFits, BeginFits, unreachable_levels};
 
 use intervals::rows;
-use paintrows;
 use plan::site::Site;
 use start;
 use walkbytes::{maprows, painting};
-use window::record;
 
 // The walk bytes and the flags of the window.
 pub fn ground(site: Site, cells: &[u8], blockers: &[i32], walk: &mut [u8], flags: &mut [u8])
@@ -25,11 +23,11 @@ pub fn ground(site: Site, cells: &[u8], blockers: &[i32], walk: &mut [u8], flags
         × (entries flags.new ≡ flags_filled site.window (entries walk.new) (entries flags.old)) }
 {
     let window = site.window;
-    let count = record::padded(window);
-    paintrows::paint_row(walk, 0, count);
+    let count = window.padded();
+    walk[..count].fill(0);
     maprows::copy_rows(cells, walk, window, site.width);
     painting::paint(walk, blockers, window, site.width, site.height);
-    paintrows::paint_row(flags, 0, count);
+    flags[..count].fill(0);
     flags::flag_rows(walk, flags, window);
 }
 
@@ -44,7 +42,7 @@ pub fn begin(site: Site, resources: &[i32], lanes: &mut [i16], walk: &[u8], rows
     let sources = site.sources;
     let targets = site.targets;
     rows::write_rows(rows, window, sources, targets);
-    unreachable::fill(lanes, record::padded(window) * window.lanes);
+    unreachable::fill(lanes, window.padded() * window.lanes);
     start::start_lanes(
         lanes,
         walk,

@@ -6,9 +6,10 @@ use native.Mathlib.Nat.{suc-mul, add-mul, mul-le-mul_right}
 use native.Mathlib.Numerals.{add-one}
 use native.Mathlib.Decide.{ℕ_discrete}
 use native.Mathlib.Omega.{arith}
-use lib.ListN.{length, length-set, set, take, drop, get_or-append}
+use lib.ListN.{length, length-set, length-take, length-drop, set, take, drop, replicate, get_or-append}
 use lib.Seq.{get_or-set_same, get_or-set_other, get_or-take, get_or-drop, get_or-append-add, length-take-le}
 use borrow.Rule.Slice.PartMut.{put_mid}
+use Rattle.std.proofs.lemmas.List.{get_or-replicate, length-replicate}
 use Rattle.walkgraph.specs.Lists.{placed}
 use Rattle.walkgraph.proofs.Tests.{by_cases}
 use Rattle.walkgraph.proofs.Lists.{placed_in, placed_below, placed_above, by_place}
@@ -109,3 +110,11 @@ part_back buffer part start k n new e fits long each =
 
     later : (j : ℕ) → entries (take start buffer ++ (part ++ rest)) (start + j) ≡ entries (part ++ rest) j
     later j = rw before at (get_or-append-add (take start buffer) (part ++ rest) j 0)
+
+-- a part that was filled and came back
+pub filled_back : (buffer part : List ℕ) (start k n v : ℕ) → k ≡ n → start + n ≤ length buffer → part ≡ replicate (length (take k (drop start buffer))) v →
+    entries (put_mid start k buffer part) ≡ placed (entries buffer) start n (λ x. v)
+filled_back buffer part start k n v e h f =
+    let taken : length (take k (drop start buffer)) ≡ n = simp (length-take, length-drop) (omega arith) in
+    part_back buffer part start k n (λ x. v) e h (ap length f ∙ length-replicate (length (take k (drop start buffer))) v ∙ taken)
+    (λ i q. rw f (get_or-replicate (length (take k (drop start buffer))) i v 0 (omega arith)))

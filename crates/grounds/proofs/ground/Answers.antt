@@ -11,9 +11,6 @@ padded-count-requires c =
     let z = limits _ _ _ _ g.on_map _ g.over in
     (z.width, z.height)
 
-pub paint_row-requires : goal.paint_row-requires
-paint_row-requires c = λ x h. search rules
-
 pub copy_rows-requires : goal.copy_rows-requires
 copy_rows-requires c =
     let p = c.requires in
@@ -24,9 +21,6 @@ paint-requires c =
     let p = c.requires in
     let g = p.site in
     (site_paints _ _ _ _ g.on_map _ g.over _ (omega (arith, p.walk_in)), g.on_map.wide, g.on_map.high)
-
-pub paint_row-requires-2 : goal.paint_row-requires-2
-paint_row-requires-2 c = λ x h. search rules
 
 pub flag_rows-requires : goal.flag_rows-requires
 flag_rows-requires c =
