@@ -7,7 +7,7 @@ ghost use Rattle.window.specs.Fills.{entries, zeros, rows_placed};
 ghost use Rattle.paintrows.specs.PaintRows.{PaintRows};
 
 // Writes 0 to count bytes from an index on.
-pub fn paint_row(walk: &mut [u8], from: usize, count: usize)
+fn paint_row(walk: &mut [u8], from: usize, count: usize)
     requires { (x : ℕ) → x < count → from + x < length walk.old }
     ensures { entries walk.new ≡ placed (entries walk.old) from count zeros }
 {
