@@ -39,9 +39,7 @@ pub fn begin(site: Site, resources: &[i32], lanes: &mut [i16], walk: &[u8], rows
         (lanes_hit site.window walk.now rows.new site.width site.height resources.now (length resources.now / 4))) }
 {
     let window = site.window;
-    let sources = site.sources;
-    let targets = site.targets;
-    rows::write_rows(rows, window, sources, targets);
+    rows::write_rows(rows, window, site.sources, site.targets);
     unreachable::fill(lanes, window.padded() * window.lanes);
     start::start_lanes(
         lanes,

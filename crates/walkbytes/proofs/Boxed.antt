@@ -6,8 +6,6 @@ use native.Mathlib.Nat.{mul-le-mul, add-mul}
 use native.Mathlib.Numerals.{add-one}
 use native.Mathlib.Omega.{arith}
 use lib.IntN.{ℤ, pos, negsuc}
-use mir.Syntax.{w64}
-use mir.Val.{Fits}
 use borrow.Author.Tests.{lt-ltb, le-ltb}
 use Rattle.walkgraph.specs.Painting.{Rectangle, rectangle, clamp}
 use Rattle.walkgraph.proofs.Places.{flat_lt}
@@ -27,38 +25,22 @@ clamped size z h e = omega (arith, clamp_most (8 * size) z)
 product_most : (a s : ℕ) → a ≤ 1025 → s ≤ 1026 → a * s ≤ 1051650
 product_most a s p q = mul-le-mul p q
 
--- the first painted cell of a box: its numbers fit their type, and no difference stops at 0
-pub record BoxNumbers (w : Window) (x0 y0 s : ℕ) : Type 0 where
+-- the first painted cell of a box is in the window or past it, and on the map
+pub record BoxNumbers (w : Window) (x0 y0 : ℕ) : Type 0 where
   pub after_left : w.left ≤ x0
   pub after_top : w.top ≤ y0
   pub column : x0 ≤ 1024
   pub row : y0 ≤ 1024
-  pub rows_fit : Fits w64 (y0 - w.top + 1)
-  pub columns_fit : Fits w64 (x0 - w.left + 1)
-  pub row_place : Fits w64 ((y0 - w.top + 1) * s)
-  pub cell_place_lem : Fits w64 ((y0 - w.top + 1) * s + (x0 - w.left + 1))
 
 first_cell : (pixel cell start x0 : ℕ) → pixel ≤ 8192 → cell ≡ pixel / 8 → start ≤ 1024 → x0 ≡ max cell start → (start ≤ x0) × (x0 ≤ 1024)
 first_cell pixel cell start x0 h e k f = (omega arith, omega arith)
 
-numbers_of_lem : (w : Window) (x0 y0 s : ℕ) → s ≤ 1026 → (w.left ≤ x0) × (x0 ≤ 1024) → (w.top ≤ y0) × (y0 ≤ 1024) → BoxNumbers w x0 y0 s
-numbers_of_lem w x0 y0 s h p q =
-    let k = product_most (y0 - w.top + 1) s (omega arith) h in
-    record {
-      after_left = p.0;
-      after_top = q.0;
-      column = p.1;
-      row = q.1;
-      rows_fit = omega (arith, q.1);
-      columns_fit = omega (arith, p.1);
-      row_place = omega (arith, k);
-      cell_place_lem = omega (arith, k, p.1);
-    }
-
-pub box_numbers : {w : Window} {walk left top right bottom : ℕ} → Paints w walk → Pixels left top right bottom → (s column row x0 y0 : ℕ) → s ≡ w.width + 2 →
-    column ≡ left / 8 → x0 ≡ max column w.left → row ≡ top / 8 → y0 ≡ max row w.top → BoxNumbers w x0 y0 s
-box_numbers {w} {walk} {left} {top} {right} {bottom} p q s column row x0 y0 e f g h i =
-    numbers_of_lem w x0 y0 s (omega (arith, e, p.columns)) (first_cell left column w.left x0 q.from_left f (omega (arith, p.columns)) g) (first_cell top row w.top y0 q.from_top h (omega (arith, p.rows)) i)
+pub box_numbers : {w : Window} {walk left top right bottom : ℕ} → Paints w walk → Pixels left top right bottom → (column row x0 y0 : ℕ) →
+    column ≡ left / 8 → x0 ≡ max column w.left → row ≡ top / 8 → y0 ≡ max row w.top → BoxNumbers w x0 y0
+box_numbers {w} {walk} {left} {top} p q column row x0 y0 f g h i =
+    let a = first_cell left column w.left x0 q.from_left f (omega (arith, p.columns)) g in
+    let b = first_cell top row w.top y0 q.from_top h (omega (arith, p.rows)) i in
+    record { after_left = a.0; after_top = b.0; column = a.1; row = b.1 }
 
 -- one past the last painted column or row is not past the window's
 pub within : (cell end x1 : ℕ) → x1 ≡ min cell end → x1 ≤ end

@@ -73,9 +73,6 @@ module _ (before : ℕ → ℕ) (start stride count : ℕ) (new : ℕ → ℕ �
 pub next_row : (at start n stride : ℕ) → at ≡ start + n * stride → at + stride ≡ start + (n + 1) * stride
 next_row at start n stride e = rw (add-one n) (omega (arith, suc-mul n stride))
 
-pub rows_up : (m n stride : ℕ) → m ≤ n → m * stride ≤ n * stride
-rows_up m n stride h = mul-le-mul_right stride h
-
 -- the rows of a window with padding lie in its (h + 2) * s places
 pub row_room : (y h s : ℕ) → y < h → s + y * s + 2 * s ≤ (h + 2) * s
 row_room y h s k = let r : (y + 3) * s ≤ (h + 2) * s = mul-le-mul_right s (omega arith) in omega (arith, add-mul y 3 s)

@@ -3,7 +3,6 @@ use mathlib.Core.Path.{◌≡◌, refl}
 use Prim.Native.Nat.{ℕ, ◌+◌, ◌*◌, ◌≤◌, ◌<◌}
 use native.Mathlib.Nat.{add-mul, mul-le-mul_right}
 use native.Mathlib.Omega.{arith}
-use lib.ListN.{length}
 use Rattle.window.specs.Fills.{entries, window_rows}
 use Rattle.window.proofs.Fills.{rows_none, rows_more}
 use Rattle.window.specs.declared.record.Window.{Window}

@@ -7,7 +7,7 @@ use Rattle.walkbytes.proofs.painting.paint_box.Goals as goal
 pub paint_rows-requires : goal.paint_rows-requires
 paint_rows-requires c =
     let p = c.requires in
-    let n = box_numbers p.0 p.1 _ _ _ _ _ c.stride-stride.ensures c.cell_of.ensures c.max-left.ensures c.cell_of-then-pixels-2.ensures c.max-top.ensures in
+    let n = box_numbers p.0 p.1 _ _ _ _ c.cell_of.ensures c.max-left.ensures c.cell_of-then-pixels-2.ensures c.max-top.ensures in
     rw (c.saturating_sub.ensures, c.saturating_sub-then-pixels-2.ensures)
     (box_fits p.0 _ _ _ _ _ c.stride-stride.ensures n.after_left n.column n.after_top n.row (within _ _ _ c.min-right.ensures) (within _ _ _ c.min-bottom.ensures))
 
@@ -27,5 +27,6 @@ returns-else-pixels c =
     let a = c.args in
     let p = a.pixels in
     elim c.else-pixels.branch [
-    else-pixels-via-then-pixels+else-pixels-2 w ↦ box_flat a.window p.left p.top p.right p.bottom _ w.if-pixels.true w.if-pixels-2.false
-    | else-pixels-via-else-pixels w ↦ box_thin a.window p.left p.top p.right p.bottom _ w.if-pixels.false ]
+      | else-pixels-via-then-pixels+else-pixels-2 w ↦ box_flat a.window p.left p.top p.right p.bottom _ w.if-pixels.true w.if-pixels-2.false
+      | else-pixels-via-else-pixels w ↦ box_thin a.window p.left p.top p.right p.bottom _ w.if-pixels.false
+    ]
