@@ -10,6 +10,7 @@ use cells::boxes::CellBox;
 use windowedges::REACH;
 
 // The distance of a value to an interval, 0 in it.
+#[tactic(auto, unfolding(walkgraph::specs::Window::gap))]
 pub fn gap(value: usize, low: usize, high: usize) -> usize
     requires { low ≤ high }
     ensures { result ≡ gap value low high }
@@ -18,6 +19,7 @@ pub fn gap(value: usize, low: usize, high: usize) -> usize
 }
 
 // The octile cost of an offset.
+#[tactic(auto, unfolding(walkgraph::specs::Window::octile))]
 fn octile(dx: usize, dy: usize) -> usize
     requires { (dx ≤ 1024) × (dy ≤ 1024) }
     ensures { result ≡ octile dx dy }

@@ -25,6 +25,7 @@ fn among(start: usize, count: usize, value: usize) -> bool
 }
 
 // Whether the record fits, and the map's cell (x, y) is in its window.
+#[tactic(auto, using(std::proofs::lemmas::Bool::Decides::nat_tests), unfolding(walkgraph::specs::Reading::in_record))]
 fn holds(window: Window, length: usize, x: usize, y: usize) -> bool
     ensures { result ≡ (fits (as_record window) length && in_record (as_record window) x y) }
 {

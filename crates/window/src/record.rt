@@ -20,6 +20,7 @@ pub struct Window {
 
 impl Window {
     // The window of a call with no resources.
+    #[tactic(auto, unfolding(walkgraph::specs::Reading::no_window))]
     pub fn nothing(lanes: usize) -> Window
         ensures { as_record result ≡ no_window lanes }
     {

@@ -9,6 +9,7 @@ ghost use Rattle.windowrecord.specs.Records.{has_room, OfCell};
 use window::record::Window;
 
 // Whether a record is in the limits of a map, and its lanes are no more than length.
+#[tactic(auto, using(std::proofs::lemmas::Bool::Decides::nat_tests), unfolding(crate::specs::Records::has_room))]
 fn room(window: Window, length: usize) -> bool
     requires { window.lanes ≤ 16 }
     ensures { result ≡ has_room (as_record window) length }
@@ -17,6 +18,7 @@ fn room(window: Window, length: usize) -> bool
 }
 
 // Whether a record is one that a buffer of so many lanes holds.
+#[tactic(auto, using(std::proofs::lemmas::Bool::Decides::nat_tests), unfolding(walkgraph::specs::Reading::fits, crate::specs::Records::has_room))]
 pub fn fits(window: Window, length: usize) -> bool
     ensures { result ≡ fits (as_record window) length }
 {
