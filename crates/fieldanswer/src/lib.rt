@@ -7,7 +7,6 @@ ghost use Rattle.window.specs.Windows.{as_record};
 ghost use Rattle.fieldanswer.specs.Answers.{answer_of, unmade_answer};
 
 use plan::Plan;
-use window::record;
 use window::record::Window;
 
 // A refusal's number and place, or the window record and the sweep count.
@@ -25,7 +24,7 @@ pub fn unmade(plan: Plan, lanes: usize) -> Answer
         return Answer::Refused { number, place };
     }
     Answer::Made {
-        window: record::nothing(lanes),
+        window: Window::nothing(lanes),
         sweeps: 0,
     }
 }

@@ -8,7 +8,6 @@ use grounds;
 use plan::site::Site;
 use sweep::relax;
 use versions;
-use window::record;
 
 // The field of a site, in the buffers: how many sweeps made it.
 pub fn make(
@@ -31,12 +30,12 @@ pub fn make(
 {
     let window = site.window;
     let sources = site.sources;
-    let used = &mut lanes[..record::padded(window) * window.lanes];
+    let used = &mut lanes[..window.padded() * window.lanes];
     grounds::ground(site, cells, blockers, walk, flags);
     grounds::begin(site, resources, used, walk, rows);
     relax::relax(
         window.lanes,
-        record::stride(window),
+        window.stride(),
         window.height,
         versions::above(window, sources),
         used,

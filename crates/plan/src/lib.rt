@@ -15,7 +15,6 @@ use refusals;
 use rings::ring;
 use rowbuffers;
 use targetbox;
-use window::record;
 use window::record::Window;
 
 // The lengths of the lent buffers.
@@ -43,7 +42,7 @@ fn room_ok(window: Window, lent: Lent) -> bool
     requires { (window.width ≤ 1024) × (window.height ≤ 1024) × (window.lanes ≤ 16) }
     ensures { result ≡ enough window lent }
 {
-    let cells = record::padded(window);
+    let cells = window.padded();
     if lent.lanes < cells * window.lanes {
         return false;
     }
@@ -83,7 +82,7 @@ fn site_of(
         right,
         bottom,
     });
-    let window = record::window_of(sources, targets, width, height, lanes);
+    let window = Window::around(sources, targets, width, height, lanes);
     Site {
         width,
         height,

@@ -47,22 +47,22 @@ boxed c =
     let f = c.ranges in
     rw (to_z-of_z w32 b.left f.left, to_z-of_z w32 b.top f.top, to_z-of_z w32 b.right f.right, to_z-of_z w32 b.bottom f.bottom) at c.cells_of-targets.ensures
 
-pub window_of-window-requires : goal.window_of-window-requires
-window_of-window-requires c =
-    let s = across (goal.at.window_of-window-requires c).After-sources-sources in
-    let t = along (goal.at.window_of-window-requires c).After-sources-sources in
+pub around-window-requires : goal.around-window-requires
+around-window-requires c =
+    let s = across (goal.at.around-window-requires c).After-sources-sources in
+    let t = along (goal.at.around-window-requires c).After-sources-sources in
     record {
       wide = c.requires.rings.wide;
       high = c.requires.rings.high;
       sources = rw c.sources-sources.ensures (sources_in_map c.args.width c.args.height c.args.resources.now c.requires.rings);
-      targets = rw (boxed (goal.at.window_of-window-requires c).After-cells_of-targets) (record { across = s.across; wide = s.wide; along = t.across; tall = t.wide });
+      targets = rw (boxed (goal.at.around-window-requires c).After-cells_of-targets) (record { across = s.across; wide = s.wide; along = t.across; tall = t.wide });
     }
 
 pub returns : goal.returns
 returns c =
-    let e = c.window_of-window.ensures in
+    let e = c.around-window.ensures in
     record {
-      good = record { on_map = window_of-window-requires (goal.at.returns c).After-cells_of-targets; over = over _ _ _ e; count = few _ _ _ e c.requires.count };
+      good = record { on_map = around-window-requires (goal.at.returns c).After-cells_of-targets; over = over _ _ _ e; count = few _ _ _ e c.requires.count };
       columns = omega arith;
       rows = omega arith;
       from = c.sources-sources.ensures;
