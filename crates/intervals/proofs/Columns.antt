@@ -1,19 +1,17 @@
 -- The searches for a row's first inside column and for the last.
 use mathlib.Core.Path.{◌≡◌, refl, sym, ◌∙◌}
-use mathlib.Core.Bool.{Bool, true, false, not, ◌&&◌}
+use mathlib.Core.Bool.{Bool, true, false}
 use Prim.Native.Nat.{ℕ, suc, ◌+◌, ◌-◌, ◌≤◌, ◌<◌}
 use native.Mathlib.Numerals.{add-one}
 use native.Mathlib.Decide.{dec_le, ℕ_discrete}
 use native.Mathlib.Omega.{arith}
-use lib.Dec.{T, ltb}
-use borrow.Author.Tests.{ltb-true, lt-ltb, not-true, not-false}
+use lib.Dec.{T}
 use Rattle.walkgraph.specs.Lists.{first_from, past_last}
 use Rattle.walkgraph.specs.Window.{gap}
 use Rattle.walkgraph.proofs.Tests.{by_cases}
 use Rattle.walkgraph.proofs.Lists.{first_from_lem, IsPast, nobody, somebody, past_last_lem}
 use Rattle.cells.specs.declared.boxes.CellBox.{CellBox}
 use Rattle.cells.specs.Boxes.{reach, box_of}
-use Rattle.cells.proofs.Bools.{both}
 use Rattle.gaps.specs.declared.RowGaps.{RowGaps}
 use Rattle.gaps.specs.Inside.{inside_in_row}
 use Rattle.gaps.proofs.Gaps.{beside, inside_in_row_lem}

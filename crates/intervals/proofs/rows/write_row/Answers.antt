@@ -2,7 +2,6 @@
 use mathlib.Core.Path.{refl, ◌∙◌, ap}
 use Prim.Native.Nat.{◌+◌, ◌*◌}
 use native.Mathlib.Omega.{arith}
-use lib.ListN.{length-set}
 use Rattle.cells.specs.Boxes.{box_of}
 use Rattle.intervals.specs.Intervals.{first_of, past_of, ends}
 use Rattle.window.proofs.Fills.{placed_two}
