@@ -32,7 +32,7 @@ pub fn expand(
     let state = states[index];
     let count = list::listed(states, width, height, x, y, state, directions, picked);
     for j in 0..count {
-        let k = picked[j] as usize;
+        let k = usize::from(picked[j]);
         visit::visit(
             states,
             queue,

@@ -4,7 +4,7 @@ use native.Mathlib.Omega.{arith}
 use Rattle.disjoint.specs.Forest.{of}
 use Rattle.join.proofs.Rounds.{round_none, round_may, round_on, round_done, head_cell, head_queued, few_cells, few_queued, Sizes, sizes, may_at, visited_at}
 use Rattle.visits.proofs.Searching.{here_in}
-use Rattle.join.proofs.expand.expand.Goals.{After-k-1}
+use Rattle.join.proofs.expand.expand.Goals.{After-from-k}
 use Rattle.join.proofs.expand.expand.Goals as goal
 
 pub offset_bounds-queue-head : goal.offset_bounds-queue-head
@@ -41,43 +41,40 @@ pub bounds-picked-j : goal.bounds-picked-j
 bounds-picked-j c = omega (arith, c.listed-count.ensures.few, c.loop-j-test.true)
 
 -- the numbers of the move
-numbers : (c : After-k-1) → Sizes c.args.width (of c.args.queue.now.points.now c.args.head) (of c.listed-count.new.list c.loop-j.j) (of c.args.directions.now.over (of c.listed-count.new.list c.loop-j.j)) (of c.args.directions.now.down (of c.listed-count.new.list c.loop-j.j)) (of c.args.directions.now.steps (of c.listed-count.new.list c.loop-j.j))
-numbers c = sizes c.requires c.listed-count.ensures c.loop-j.j c.loop-j-test.true
-
-pub overflow_cast-k : goal.overflow_cast-k
-overflow_cast-k c = omega (arith, (numbers (goal.at.overflow_cast-k c).After-k-1).low)
+numbers : (c : After-from-k) → Sizes c.args.width (of c.args.queue.now.points.now c.args.head) c.from-k.result (of c.args.directions.now.over c.from-k.result) (of c.args.directions.now.down c.from-k.result) (of c.args.directions.now.steps c.from-k.result)
+numbers c = rw c.from-k.ensures (sizes c.requires c.listed-count.ensures c.loop-j.j c.loop-j-test.true)
 
 pub bounds-directions-k : goal.bounds-directions-k
-bounds-directions-k c = (numbers (goal.at.bounds-directions-k c).After-k-1).low
+bounds-directions-k c = (numbers (goal.at.bounds-directions-k c).After-from-k).low
 
 pub overflow_add-index-in-loop-j : goal.overflow_add-index-in-loop-j
-overflow_add-index-in-loop-j c = (numbers (goal.at.overflow_add-index-in-loop-j c).After-k-1).step_fits
+overflow_add-index-in-loop-j c = (numbers (goal.at.overflow_add-index-in-loop-j c).After-from-k).step_fits
 
 pub overflow_sub-index : goal.overflow_sub-index
-overflow_sub-index c = (numbers (goal.at.overflow_sub-index c).After-k-1).step_low
+overflow_sub-index c = (numbers (goal.at.overflow_sub-index c).After-from-k).step_low
 
 pub overflow_sub-index-in-loop-j : goal.overflow_sub-index-in-loop-j
-overflow_sub-index-in-loop-j c = (numbers (goal.at.overflow_sub-index-in-loop-j c).After-k-1).step_some
+overflow_sub-index-in-loop-j c = (numbers (goal.at.overflow_sub-index-in-loop-j c).After-from-k).step_some
 
 pub bounds-directions-k-in-loop-j : goal.bounds-directions-k-in-loop-j
-bounds-directions-k-in-loop-j c = (numbers (goal.at.bounds-directions-k-in-loop-j c).After-k-1).low
+bounds-directions-k-in-loop-j c = (numbers (goal.at.bounds-directions-k-in-loop-j c).After-from-k).low
 
 pub bounds-directions-k-in-loop-j-2 : goal.bounds-directions-k-in-loop-j-2
-bounds-directions-k-in-loop-j-2 c = (numbers (goal.at.bounds-directions-k-in-loop-j-2 c).After-k-1).low
+bounds-directions-k-in-loop-j-2 c = (numbers (goal.at.bounds-directions-k-in-loop-j-2 c).After-from-k).low
 
 pub visit-requires : goal.visit-requires
 visit-requires c =
-    let z = numbers (goal.at.visit-requires c).After-k-1 in
-    let o = c.listed-count.ensures.only c.loop-j.j c.loop-j-test.true in
-    (z.fits, may_at z (round_may c.requires c.loop-j.invariant.1 refl o.0 o.1))
+    let z = numbers (goal.at.visit-requires c).After-from-k in
+    let o = rw (sym c.from-k.ensures) at (c.listed-count.ensures.only c.loop-j.j c.loop-j-test.true) in
+    (z.fits, may_at z (round_may c.requires c.loop-j.invariant.1 (sym c.from-k.ensures) o.0 o.1))
 
 pub loop-j-preserved : goal.loop-j-preserved
 loop-j-preserved c =
-    let o = c.listed-count.ensures.only c.loop-j.j c.loop-j-test.true in
+    let o = rw (sym c.from-k.ensures) at (c.listed-count.ensures.only c.loop-j.j c.loop-j-test.true) in
     let l = c.loop-j.invariant in
     let x = c.visit.ensures in (
       (x.lent.0 ∙ l.0.0, (x.lent.1.0 ∙ l.0.1.0, x.lent.1.1 ∙ l.0.1.1)),
-      round_on c.requires l.1 refl o.0 o.1 (visited_at (numbers (goal.at.loop-j-preserved c).After-k-1) x.visited),
+      round_on c.requires l.1 (sym c.from-k.ensures) o.0 o.1 (visited_at (numbers (goal.at.loop-j-preserved c).After-from-k) x.visited),
     )
 
 pub shape_of-states : goal.shape_of-states
