@@ -1,5 +1,5 @@
 -- A row from its two ways.
-use Rattle.std.proofs.Common.{◌≡◌, ℕ, ◌+◌, ◌*◌, Bool, true, false, sym, ◌∙◌, ⊎_elim, add-mul, arith, w64, Fits}
+use Rattle.std.proofs.Common.{◌≡◌, ℕ, ◌+◌, ◌*◌, Bool, true, false, sym, ◌∙◌, ⊎_elim, add-mul, arith}
 use Rattle.ways.specs.Row.{both_row, Tells, OutDone, BackDone, RowDone, changed, both, kept}
 use Rattle.ways.specs.Buffers.{RowFits, BackFits}
 use Rattle.lane.specs.Levels.{LaneCount}

@@ -1,12 +1,9 @@
 -- What the buffers of a window hold: room for each row that a sweep visits.
-use Rattle.std.proofs.Common.{◌≡◌, ℕ, ◌+◌, ◌-◌, ◌*◌, ◌%◌, ◌^◌, ◌<◌, ◌≤◌, Bool, true, false, List, length, get_or, set, ⊎_elim, mul-le-mul_right, le-mul_of_pos_right, arith, w64, Fits}
+use Rattle.std.proofs.Common.{◌≡◌, ℕ, ◌+◌, ◌-◌, ◌*◌, ◌%◌, ◌^◌, ◌<◌, Bool, true, false, List, get_or, set}
 use Rattle.ways.specs.Row.{RowDone}
 use Rattle.pulls.specs.Pulls.{Pulls}
 use Rattle.pulls.proofs.Pulled.{skipped_same, due_set}
 use Rattle.row.specs.Visits.{Ground, State, first, past, Visited, skipped, done}
-use Rattle.lane.specs.Levels.{LaneCount}
-use Rattle.ways.specs.Buffers.{RowFits}
-use Rattle.row.specs.Buffers.{VisitFits}
 
 -- a row that is not empty and was skipped
 pub row_skipped : {g : Ground} {down fresh skips : Bool} {y z : ℕ} {s : State} {after : List ℕ} → first g y < past g y → Pulls (get_or s.versions z 0) y s.pulled after skips → skips ≡ true →

@@ -1,6 +1,5 @@
 -- `run::run`: after some sweeps. They stay below the number with which the run stops, which fits a usize: the measure is what is left of that type.
 use mathlib.Core.Path.{refl, ◌∙◌}
-use Prim.Native.Nat.{◌-◌}
 use native.Mathlib.Omega.{arith}
 use Rattle.sweep.proofs.Runs.{run_start, run_next, run_ends}
 use Rattle.sweep.proofs.run.run.Goals as goal

@@ -1,6 +1,5 @@
 -- `run::sweep`: after some turns.
 use mathlib.Core.Path.{◌≡◌, refl, ◌∙◌}
-use Prim.Native.Nat.{◌+◌, ◌^◌, ◌<◌}
 use native.Mathlib.Omega.{arith}
 use Rattle.sweep.specs.Sweeps.{none}
 use Rattle.sweep.proofs.Runs.{visit_fits, turns_more}
