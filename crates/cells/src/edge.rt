@@ -1,27 +1,6 @@
-// Edges of numbers and of pixels.
-ghost use Rattle.std.specs.Prelude.{◌≡◌, ◌+◌, ◌*◌, ◌-◌, ◌/◌, ◌≤◌, min, max};
+// Edges of pixels.
+ghost use Rattle.std.specs.Prelude.{◌≡◌, ◌+◌, ◌*◌, ◌/◌, ◌≤◌};
 ghost use Rattle.walkgraph.specs.Painting.{clamp};
-
-// The lesser of two numbers.
-pub fn least(x: usize, y: usize) -> usize
-    ensures { result ≡ min x y }
-{
-    if x < y { x } else { y }
-}
-
-// The greater of two numbers.
-pub fn most(x: usize, y: usize) -> usize
-    ensures { result ≡ max x y }
-{
-    if x > y { x } else { y }
-}
-
-// How far y lies past x, 0 if it does not.
-pub fn past(x: usize, y: usize) -> usize
-    ensures { result ≡ y - x }
-{
-    if x < y { y - x } else { 0 }
-}
 
 // A pixel edge clamped to 0..8 x size.
 pub fn clamp(pixel: i32, size: usize) -> usize
