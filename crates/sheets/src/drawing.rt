@@ -4,6 +4,7 @@ ghost use Rattle.plan.specs.Plans.{input_of};
 ghost use Rattle.sheets.specs.Drawings.{DrawFits, PutsDrawing};
 
 use crate::answersheet;
+use field::buffers::Buffers;
 use fournumbers::Corners;
 use page::Page;
 
@@ -28,6 +29,15 @@ pub fn draw(
     let mut versions: [u32; 62] = [0; 62];
     let mut pulled_down: [u32; 62] = [0; 62];
     let mut pulled_up: [u32; 62] = [0; 62];
+    let mut buffers = Buffers {
+        lanes: &mut lanes,
+        walk: &mut walk,
+        flags: &mut flags,
+        rows: &mut rows,
+        versions: &mut versions,
+        pulled_down: &mut pulled_down,
+        pulled_up: &mut pulled_up,
+    };
     let found = field::field(
         width,
         height,
@@ -36,15 +46,16 @@ pub fn draw(
         blockers,
         resources,
         targets,
-        &mut lanes,
-        &mut walk,
-        &mut flags,
-        &mut rows,
-        &mut versions,
-        &mut pulled_down,
-        &mut pulled_up,
+        &mut buffers,
     );
     answersheet::answered(
-        page, width, height, cells, resources, targets, found, &lanes,
+        page,
+        width,
+        height,
+        cells,
+        resources,
+        targets,
+        found,
+        buffers.lanes,
     );
 }

@@ -4,7 +4,7 @@ use Rattle.classes.proofs.Searched.{sown_seeded, classes_made, fields_found}
 use Rattle.classes.proofs.numbers.Goals as goal
 
 pub seed-requires : goal.seed-requires
-seed-requires c = (c.requires.0, refl)
+seed-requires c = c.requires.0
 
 pub search-requires : goal.search-requires
 search-requires c = sown_seeded c.seed.ensures.sown refl

@@ -8,21 +8,21 @@ use Rattle.seeds.proofs.Grounding.{sown_none}
 use Rattle.seeds.proofs.seed.seed.Goals as goal
 
 pub ground-requires : goal.ground-requires
-ground-requires c = let p = c.requires.0 in (p.cells ∙ sym p.sowable.cells, p.sowable.bits)
+ground-requires c = let p = c.requires in (p.cells ∙ sym p.sowable.cells, p.sowable.bits)
 
 pub begin-requires : goal.begin-requires
-begin-requires c = let p = c.requires.0 in (p.long ∙ sym p.members, omega (arith, p.members, p.sowable.few))
+begin-requires c = let p = c.requires in (p.long ∙ sym p.members, omega (arith, p.members, p.sowable.few))
 
 pub loop-r-init : goal.loop-r-init
 unfolding start_of
 loop-r-init c =
     let x = c.begin.ensures in
-    ((refl, (refl, refl)), rw c.requires.1 (sown_none c.requires.0 c.ground.ensures x.begun))
+    ((refl, (refl, refl)), sown_none c.requires c.ground.ensures x.begun)
 
 pub sow-requires : goal.sow-requires
 sow-requires c =
     let e = c.start_of-from.ensures in
-    record { input = _; places = of_list c.requires.0.sowable c.loop-r-test.true e; sown = rw e c.loop-r.invariant.1 }
+    record { input = _; places = of_list c.requires.sowable c.loop-r-test.true e; sown = rw e c.loop-r.invariant.1 }
 
 pub loop-r-preserved : goal.loop-r-preserved
 loop-r-preserved c =
@@ -30,10 +30,10 @@ loop-r-preserved c =
     let e = c.start_of-from.ensures in
     let l = c.loop-r.invariant in
     let x = c.sow.ensures in
-    ((x.lent.0 ∙ l.0.0, (x.lent.1.0 ∙ l.0.1.0, x.lent.1.1 ∙ l.0.1.1)), sown_next (x.sown _ (of_list c.requires.0.sowable t e) (rw e l.1)))
+    ((x.lent.0 ∙ l.0.0, (x.lent.1.0 ∙ l.0.1.0, x.lent.1.1 ∙ l.0.1.1)), sown_next (x.sown _ (of_list c.requires.sowable t e) (rw e l.1)))
 
 pub shape_of-states : goal.shape_of-states
-shape_of-states c = seeded_states c.requires.0 c.loop-r.invariant.1
+shape_of-states c = seeded_states c.requires c.loop-r.invariant.1
 
 pub returns : goal.returns
 returns c =

@@ -9,7 +9,7 @@ use Rattle.walkgraph.specs.Promise.{FieldPromise}
 use Rattle.cells.specs.Boxes.{reach}
 use Rattle.fournumbers.specs.Corners.{corners_of}
 use Rattle.plan.specs.Plans.{input_of}
-use Rattle.make.specs.Makes.{lent}
+use Rattle.field.specs.Buffers.{lent_of}
 use Rattle.fieldanswer.specs.Answers.{answer_of}
 use Rattle.sheets.specs.Drawings.{zero_field}
 use Rattle.sheets.proofs.Accepted.{can_answer}
@@ -23,36 +23,12 @@ input s = let a = s.args in input_of a.width a.height a.cells.now 8 a.blockers.n
 
 -- and what it leaves
 abbrev after : After-field-found → Lent
-after c = let n = c.field-found.new in lent n.lane_values n.walk n.flags n.rows n.versions n.pulled_down n.pulled_up
+after c = lent_of c.field-found.new.buffers
 
--- what it promises of the target box as it was given
+-- what it promises
 promised : (c : After-field-found) → let a = c.args in
     FieldPromise reach (input_of a.width a.height a.cells.now 8 a.blockers.now a.resources.now (corners_of a.targets)) zero_field (after c) (answer_of c.field-found.result)
-promised c = c.field-found.ensures
-
-pub slice_bounds-field-end : goal.slice_bounds-field-end
-slice_bounds-field-end c = sym (length-replicate {A = ℤ} 30752 (pos 0))
-
-pub slice_bounds-field-end-2 : goal.slice_bounds-field-end-2
-slice_bounds-field-end-2 c = sym (length-replicate {A = ℕ} 3844 0)
-
-pub slice_bounds-field-end-3 : goal.slice_bounds-field-end-3
-slice_bounds-field-end-3 c = sym (length-replicate {A = ℕ} 3844 0)
-
-pub slice_bounds-field-end-4 : goal.slice_bounds-field-end-4
-slice_bounds-field-end-4 c = sym (length-replicate {A = ℕ} 120 0)
-
-pub slice_bounds-field-end-5 : goal.slice_bounds-field-end-5
-slice_bounds-field-end-5 c = sym (length-replicate {A = ℕ} 62 0)
-
-pub slice_bounds-field-end-6 : goal.slice_bounds-field-end-6
-slice_bounds-field-end-6 c = sym (length-replicate {A = ℕ} 62 0)
-
-pub slice_bounds-field-end-7 : goal.slice_bounds-field-end-7
-slice_bounds-field-end-7 c = sym (length-replicate {A = ℕ} 62 0)
-
-pub slice_bounds-answered-end : goal.slice_bounds-answered-end
-slice_bounds-answered-end c = rw c.field-found.auto.lane_values (sym (length-replicate {A = ℤ} 30752 (pos 0)))
+promised c = c.field-found.ensures.promise
 
 pub answered-requires : goal.answered-requires
 answered-requires c =
