@@ -23,24 +23,24 @@ use Rattle.listspromise.specs.AccessListsPromise as lists
 use Rattle.manyrectangles.proofs.Rectangles.{access_most}
 use Rattle.manyrectangles.proofs.AllCells.{all_most}
 use Rattle.accesslists.proofs.Verdicts.{all_fit}
-use Rattle.countanswer.specs.declared.Answer.{Answer}
-use Rattle.countanswer.specs.declared.Answer.TheVariants.{Refused, Counted}
+use Rattle.std.proofs.Common.{Result, Ok, Err}
+use Rattle.refusal.specs.declared.Refusal.{Refusal}
 use Rattle.countanswer.specs.Answers.{listed_of, joined_of}
 use Rattle.countanswer.specs.Numbers.{InU32}
 
 -- ---- access of a rectangle: at most 1,048,576 cells
-pub access_in_u32 : (w h : ℕ) (cells : List ℕ) (r : Rectangle) (before : List ℕ) {after : List ℕ} (a : Answer) → AccessPromise w h cells r before after (listed_of a) → InU32 a
+pub access_in_u32 : (w h : ℕ) (cells : List ℕ) (r : Rectangle) (before : List ℕ) {after : List ℕ} (a : Result ℕ Refusal) → AccessPromise w h cells r before after (listed_of a) → InU32 a
 unfolding InU32 listed_of access_verdict
-access_in_u32 w h cells r before (Refused number place) p = tt
-access_in_u32 w h cells r before (Counted count) (access.lists e) =
+access_in_u32 w h cells r before (Err refusal) p = tt
+access_in_u32 w h cells r before (Ok count) (access.lists e) =
     let g = grid w h cells (accepted_parts _ _ _ _ e).0 in
     omega (arith, access_most w h cells r g.across.some g.along.some, mul-le-mul g.along.most g.across.most)
 
 -- ---- access of many rectangles: at most 512 times as many
-pub lists_in_u32 : (w h : ℕ) (cells : List ℕ) (l : List ℤ) (before : ListsLent) {after : ListsLent} (a : Answer) → AccessListsPromise w h cells l before after (listed_of a) → InU32 a
+pub lists_in_u32 : (w h : ℕ) (cells : List ℕ) (l : List ℤ) (before : ListsLent) {after : ListsLent} (a : Result ℕ Refusal) → AccessListsPromise w h cells l before after (listed_of a) → InU32 a
 unfolding InU32 listed_of
-lists_in_u32 w h cells l before (Refused number place) p = tt
-lists_in_u32 w h cells l before (Counted count) (lists.lists e) =
+lists_in_u32 w h cells l before (Err refusal) p = tt
+lists_in_u32 w h cells l before (Ok count) (lists.lists e) =
     let fit = all_fit w h cells l (length before.indices) (length before.ends) e in
     omega (arith, all_most w h cells l fit.judged (length l / 4) (omega arith))
 
@@ -72,9 +72,9 @@ count_most {i} {before} {after} {count} a =
     let t = a.used (length i.ends) (omega arith) in
     absurd (omega (arith, t.1, t.2, number_most a.numbered (length i.ends) (omega arith) t.0 t.1)))
 
-pub joined_in_u32 : (i : JoinInput) (before : JoinLent) {after : JoinLent} (a : Answer) → FieldsPromise i before after (joined_of a) → InU32 a
+pub joined_in_u32 : (i : JoinInput) (before : JoinLent) {after : JoinLent} (a : Result ℕ Refusal) → FieldsPromise i before after (joined_of a) → InU32 a
 unfolding InU32 joined_of fields_verdict join_verdict
-joined_in_u32 i before (Refused number place) p = tt
-joined_in_u32 i before (Counted count) (joins e made) =
+joined_in_u32 i before (Err refusal) p = tt
+joined_in_u32 i before (Ok count) (joins e made) =
     let few = ltb-false 512 (length i.ends) (accepted_parts _ _ _ _ (accepted_parts _ _ _ _ e).1).0 in
     omega (arith, count_most made.answers)

@@ -1,4 +1,4 @@
--- `cerandool::cerandool_access_lists`: the promise of access of many rectangles, of the answer's numbers.
+-- `cerandool::cerandool_access_lists`: the answer's numbers are u32s.
 use Rattle.manyrectangles.specs.Listing.{lent}
 use Rattle.cerandool.proofs.Counts.{lists_in_u32}
 use Rattle.cerandool.proofs.cerandool_access_lists.Goals as goal
@@ -7,6 +7,3 @@ pub numbers-requires : goal.numbers-requires
 numbers-requires c =
     let a = c.args in
     lists_in_u32 a.width a.height a.cells.now a.rectangles.now (lent a.indices.now a.ends.now) _ c.access_lists-answer.ensures
-
-pub returns : goal.returns
-returns c = record { answer = _; promise = c.access_lists-answer.ensures; numbers = c.numbers.ensures.0 }

@@ -1,4 +1,4 @@
--- `cerandool::cerandool_fields`: the fields call's promise, of the answer's numbers.
+-- `cerandool::cerandool_fields`: the answer's numbers are u32s.
 use Rattle.seeds.specs.Sown.{input_of}
 use Rattle.usedparts.specs.Lent.{lent}
 use Rattle.cerandool.proofs.Counts.{joined_in_u32}
@@ -10,6 +10,3 @@ numbers-requires c =
     let n = c.fields-answer.new in
     joined_in_u32 (input_of a.width a.height a.cells.now a.indices.now a.ends.now) (lent a.states.now a.queue.now a.parents.now a.ranks.now a.answers.now)
     {after = lent n.states n.queue n.parents n.ranks n.answers} _ c.fields-answer.ensures
-
-pub returns : goal.returns
-returns c = record { answer = _; promise = c.fields-answer.ensures; numbers = c.numbers.ensures.1 }
