@@ -5,11 +5,9 @@ use Prim.Native.Nat.{ℕ, zero, suc, ◌+◌, ◌*◌, ◌-◌, ◌≤◌, ◌<�
 use native.Mathlib.Nat.{suc-mul, add-zero, add-suc}
 use native.Mathlib.Numerals.{add-one}
 use native.Mathlib.Omega.{arith}
-use lib.ListN.{length, get_or, take, drop, length-append, length-drop}
-use Rattle.std.specs.Prelude.{nat_eq}
-use Rattle.std.specs.List.{count_by}
-use Rattle.std.proofs.lemmas.List.{get_or-drop}
-use Rattle.std.proofs.lemmas.List.Sums.{count_by_more_yes, count_by_more_no}
+use lib.ListN.{length, get_or, take, drop, length-append}
+use lib.Dec.{eqb}
+use mir.Val.{bool_byte}
 use Rattle.std.proofs.lemmas.Grind.{common_steps}
 use borrow.Author.Tests.{eq-eqb, ne_eqb}
 use Rattle.walkgraph.proofs.Tests.{by_cases}
@@ -95,22 +93,15 @@ module _ (cells : List ℕ) (from : ℕ) where
   pub run_byte : (n k : ℕ) → k < n → get_or (bytes n) k 0 ≡ get_or cells (from + k) 0
   run_byte n k h = grind (arith, common_steps)
 
-  counted : (n : ℕ) → from + n ≤ length cells → count_by (λ b. nat_eq b 1) (take n (drop from cells)) ≡ length (open_places cells from n)
-  unfolding open_places in_order
-  counted zero h = refl
-  counted (suc n) h =
-      let at : get_or (drop from cells) n 0 ≡ get_or cells (from + n) 0 = get_or-drop from cells n 0 in
-      let more : length (open_places cells from (suc n)) ≡ length (open_places cells from n) + length (open_place (get_or cells (from + n) 0) (from + n)) =
-      rw (add-one n) at (ap length (run_more n)) ∙ length-append (open_places cells from n) (open_place (get_or cells (from + n) 0) (from + n)) in
-      let before = counted n (omega arith) in
-      let long : n < length (drop from cells) = rw (length-drop from cells) (omega arith) in
-      rw (← add-one n)
-      (by_cases (ℕ_discrete (get_or cells (from + n) 0) 1)
-      (λ e. count_by_more_yes (λ b. nat_eq b 1) (drop from cells) n 0 long (rw (at, e)) ∙ omega (arith, ap length (open_yes _ (from + n) e)))
-      (λ m. count_by_more_no (λ b. nat_eq b 1) (drop from cells) n 0 long (rw at (ne_eqb _ 1 m)) ∙ omega (arith, ap length (open_no _ (from + n) m))))
-
-  pub run_counted : (n : ℕ) → from + n ≤ length cells → count_by (λ b. nat_eq b 1) (bytes n) ≡ length (open_places cells from n)
-  run_counted n h = let e : from + n - from ≡ n = omega arith in rw e (counted n h)
+  -- one byte more is counted
+  pub run_counted : (n k total : ℕ) → k < n → total ≡ length (open_places cells from k) →
+      total + bool_byte (eqb (get_or (bytes n) k 0) 1) ≡ length (open_places cells from (k + 1))
+  run_counted n k total h e =
+      let more = ap length (run_more k) ∙ length-append (open_places cells from k) (open_place (get_or cells (from + k) 0) (from + k)) in
+      rw (run_byte n k h)
+      (by_cases (ℕ_discrete (get_or cells (from + k) 0) 1)
+      (λ i. rw (eq-eqb _ 1 i) (omega (arith, more, e, ap length (open_yes _ (from + k) i))))
+      (λ m. rw (ne_eqb _ 1 m) (omega (arith, more, e, ap length (open_no _ (from + k) m)))))
 
   -- one cell more has room where all have
   pub run_room : (k n : ℕ) → k < n → length (open_places cells from k) + length (open_place (get_or cells (from + k) 0) (from + k)) ≤ length (open_places cells from n)
