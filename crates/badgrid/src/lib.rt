@@ -6,7 +6,7 @@ ghost use Rattle.walkgraph.specs.Refusals.{bad_grid};
 ghost use Rattle.badgrid.specs.Greatest.{greatest};
 ghost use Rattle.badgrid.specs.Grids.{in_limits};
 
-// The greatest byte, 0 of none. No byte ends the loop early: a compiler then takes many bytes at once.
+// The greatest byte, 0 of none. All bytes are read: a compiler then takes many at once.
 fn greatest(cells: &[u8]) -> u8
     ensures { result ≡ greatest cells.now }
 {

@@ -1,6 +1,6 @@
 // The eight directions.
 
-// The eight directions as a table: by how many columns and rows a move leads from the cell before, and how far along the states.
+// A table, by the number of a direction: by how many columns and rows a move leads from the cell before, and how far along the states.
 #[derive(Drop)]
 pub struct Directions {
     pub over: [usize; 8],

@@ -4,7 +4,7 @@ ghost use Rattle.roomlines.specs.Answers.{four_found};
 
 use followednumbers;
 
-// Reads a line of four numbers with single spaces: them in their order, and the place after their line.
+// Reads a line of four numbers with single spaces: the numbers in their order, and the place after their line.
 #[tactic(auto, unfolding(decimal::specs::Numbers::is_digit))]
 pub fn four(text: &[u8], at: usize) -> Option<([i32; 4], usize)>
     ensures { ReadsFour text.now at (four_found result) }

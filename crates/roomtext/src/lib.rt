@@ -1,4 +1,4 @@
-// A room text, read section by section in one pass. What is read is stored in lent buffers, and a text that is not in the form is answered with how many lines stand before the first one that breaks it.
+// A room text, read section by section in one pass. What is read is stored in lent buffers; where a line breaks the form, the answer is how many stand before it.
 #![tactic(auto)]
 
 ghost use Rattle.roomtext.specs.Readings.{ReadsRoom, RoomFits};

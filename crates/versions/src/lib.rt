@@ -9,6 +9,9 @@ ghost use Rattle.versions.specs.Versions.{VersionBuffers, BeforeSweeps, AfterSwe
 use cells::boxes::CellBox;
 use window::record::Window;
 
+// A version that no row has: nothing was pulled yet.
+const NEVER: u32 = u32::MAX;
+
 // Writes one number to count entries from an index on.
 fn set(numbers: &mut [u32], from: usize, count: usize, number: u32)
     requires { from + count ≤ length numbers.old }
@@ -23,9 +26,6 @@ pub fn above(window: Window, sources: CellBox) -> usize
 {
     sources.top.saturating_sub(window.top).min(window.height)
 }
-
-// A version that no row has: nothing was pulled yet.
-const NEVER: u32 = u32::MAX;
 
 // Before the first sweep versions are 0, and no row has pulled yet. But the rows above the sources, quiet in number,
 // cannot change in the first sweep, and count as having pulled version 0.

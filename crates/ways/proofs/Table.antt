@@ -27,8 +27,8 @@ gate_level {table} g bit k b h =
     (λ e. let f : bit ≡ 1 = omega arith in rw f (g.through k h))
 
 -- and lies in it
-pub gate_in : {table : List ℤ} {at lanes : ℕ} → Gates table → LaneCount lanes → (n : ℕ) → at ≡ n % 2 * 16 → at + lanes ≤ length table
-gate_in g l n e = let b : n % 2 < 2 = mod-lt n (omega arith) in omega (arith, e, g.long, most_lanes l)
+pub gate_in : {table : List ℤ} {at lanes : ℕ} → Gates table → lanes ≤ 16 → (n : ℕ) → at ≡ n % 2 * 16 → at + lanes ≤ length table
+gate_in g few n e = let b : n % 2 < 2 = mod-lt n (omega arith) in omega (arith, e, g.long, few)
 
 -- the way back by the gate of the flag
 pub gated_back : {table : List ℤ} → Gates table → (flag walk i : ℕ) (F beside : ℕ → ℕ) → walk ≡ flag % 2 * 16 →

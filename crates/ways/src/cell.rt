@@ -1,6 +1,6 @@
 // One cell on the way out: a wall, or what its neighbours lead to.
-ghost use Rattle.std.specs.Prelude.{length};
-ghost use Rattle.lane.specs.Levels.{level_at, LaneCount};
+ghost use Rattle.std.specs.Prelude.{◌≤◌, length};
+ghost use Rattle.lane.specs.Levels.{level_at};
 ghost use Rattle.strip.specs.Strips.{HasLevels};
 ghost use Rattle.ways.specs.Row.{out_levels};
 ghost use Rattle.ways.specs.Buffers.{Gates, CellFits};
@@ -18,7 +18,7 @@ pub fn out<const LANES: usize>(
     down: bool,
     beside: [i16; LANES],
 ) -> [i16; LANES]
-    requires { Gates gates.now × LaneCount LANES × CellFits LANES i o (length lanes.now) }
+    requires { Gates gates.now × (LANES ≤ 16) × CellFits LANES i o (length lanes.now) }
     ensures { HasLevels LANES result (out_levels LANES down flag (level_at lanes.now) i o (level_at beside.entry)) }
 {
     if flag % 2 == 0 {

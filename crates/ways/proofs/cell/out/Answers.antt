@@ -5,7 +5,7 @@ use native.Mathlib.Nat.{mod-lt}
 use native.Mathlib.Omega.{arith}
 use Rattle.onelane.specs.Takes.{out_at}
 use Rattle.ways.specs.Row.{turned}
-use Rattle.ways.proofs.Table.{most_lanes, gate_level, gate_in, wall_out}
+use Rattle.ways.proofs.Table.{gate_level, gate_in, wall_out}
 use Rattle.ways.proofs.cell.out.Goals as goal
 
 -- a bit that is not 0 is 1
@@ -19,8 +19,7 @@ pub out-requires : goal.out-requires
 out-requires g c =
     let t = c.requires.0 in
     let l = c.requires.1 in
-    let f = c.requires.2 in
-    let most = most_lanes l in (
+    let f = c.requires.2 in (
       omega arith,
       (
         f.own,
@@ -41,7 +40,7 @@ returns g c =
     let p = c.requires.0 in
     let t = turned a.down a.flag in
     record {
-      each = λ k h. let b : k < 16 = omega (arith, h, most_lanes c.requires.1) in
+      each = λ k h. let b : k < 16 = omega (arith, h, c.requires.1) in
           c.out.ensures.each k h
           ∙ rw (
             c.place.ensures,
