@@ -17,6 +17,7 @@ pub fn start_of(ends: &[u32], resource: usize) -> usize
 }
 
 // The label of a resource's access cells: the resource at depth 0.
+// Stays: asks for what fits, and `From` asks for nothing.
 pub fn label_of(resource: usize) -> u16
     requires { resource < 512 }
     ensures { result ≡ label_of resource }

@@ -24,6 +24,7 @@ pub struct FieldAnswer {
 }
 
 // The eight numbers of a field call's answer.
+// Stays: asks for what fits, and `From` asks for nothing.
 #[tactic(auto, unfolding(crate::specs::Numbers::numbers_of, crate::specs::Numbers::InU32, fieldanswer::specs::Answers::answer_of))]
 pub fn field_numbers(answer: Result<Made, Refusal>) -> FieldAnswer
     requires { InU32 (answer_of answer) }

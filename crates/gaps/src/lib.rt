@@ -49,6 +49,7 @@ impl RowGaps {
 }
 
 // A column of a window, from 0, counted with padding.
+// Stays: asks for what fits, and `From` asks for nothing.
 pub fn padded(column: usize) -> u16
     requires { column ≤ 1024 }
     ensures { result ≡ column + 1 }

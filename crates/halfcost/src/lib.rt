@@ -16,6 +16,7 @@ pub fn half_cost(lane: i16) -> Option<u16>
 }
 
 // The lane that holds a half cost of at most 48,000.
+// Stays: asks for what fits, and `From` asks for nothing.
 pub fn lane_of(half: u16) -> i16
     requires { half ≤ 48000 }
     ensures { result ≡ lane_of (bias 96) half }

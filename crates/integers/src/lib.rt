@@ -15,6 +15,7 @@ fn minus_at(text: &[u8], at: usize) -> bool
 }
 
 // The number below 0 of that size.
+// Stays: asks for what fits, and `From` asks for nothing.
 fn negative(size: u32) -> i32
     requires { size ≤ 2147483648 }
     ensures { result ≡ neg_ℤ (pos size) }

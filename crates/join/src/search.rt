@@ -37,6 +37,7 @@ pub fn search(
     };
     let mut picked: [u8; 9] = [0; 9];
     let mut head: usize = 0;
+    // Stays: the queue grows while it is read, so no iterator over it can be held.
     while head < queue.len {
         if cellstate::deepest(states, width, queue.points[head]) {
             return;

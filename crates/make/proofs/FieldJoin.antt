@@ -10,7 +10,7 @@ use lib.IntN.{ℤ, pos}
 use lib.Arith.{digits_lt, digits_div, digits_mod}
 use borrow.Author.Tests.{eq-eqb, ne_eqb}
 use Rattle.walkgraph.specs.Lanes.{unreachable, bias}
-use Rattle.walkgraph.specs.Sweep.{PaddedWindow, in_window, padded, sweeps}
+use Rattle.walkgraph.specs.Sweep.{PaddedWindow, in_window, padded}
 use Rattle.walkgraph.specs.Buffers.{Call, source_box, window_of, padded_of, unblocked, lane_start, cell_place, padded_cells, LanesAre, CountIs, flag_byte, row_first, row_past, UsedPart, by_cell, row_ends}
 use Rattle.walkgraph.proofs.Boxes.{in_box_lem}
 use Rattle.walkgraph.proofs.Lanes.{LaneRules}

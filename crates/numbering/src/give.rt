@@ -7,7 +7,7 @@ pub fn give(parents: &[u16], answers: &mut [u16], r: usize, fields: usize) -> us
     requires { Given parents.now answers.old r fields × (r < length parents.now) }
     ensures { Given parents.now answers.new (r + 1) result }
 {
-    let root = parents[r] as usize;
+    let root = usize::from(parents[r]);
     if answers[root] == 65535 {
         answers[root] = fields as u16;
         answers[r] = fields as u16;

@@ -46,6 +46,7 @@ pub fn relax(
     ensures { RowDone lane_count (flag_at flags.now) down (first * lane_count) (feeding * lane_count) first count
         (level_at lanes.old) (level_at lanes.new) fresh result }
 {
+    // Stays: "the lane count is a value" (document 01), so one place chooses the code for it.
     if lane_count == 8 {
         return both::<8>(lanes, flags, gates, first, feeding, count, down, fresh);
     }

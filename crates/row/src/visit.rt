@@ -19,6 +19,7 @@ pub struct Ground<'a> {
 }
 
 // The row of a sweep's turn, counted with padding.
+// Stays: "a direction in the call" (document 01), here and below.
 pub fn row_at(down: bool, height: usize, turn: usize) -> usize
     requires { (turn < height) × (height + 1 < 2 ^ 64) }
     ensures { result ≡ row_at down height turn }

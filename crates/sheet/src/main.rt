@@ -25,6 +25,7 @@ fn taken(file: &mut impl Read, text: &mut [u8]) -> usize
     ensures { result ≤ length text.new }
 {
     let mut done = 0;
+    // Stays: std has no read that fills what it can of a slice and says how much.
     while done < text.len() {
         match file.read(&mut text[done..]) {
             Ok(0) | Err(_) => break,

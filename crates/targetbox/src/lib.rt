@@ -11,6 +11,7 @@ use cells::boxes::CellBox;
 use fournumbers::Corners;
 
 // The cells of a target box that is not negative.
+// Stays: asks for what fits, and `From` asks for nothing.
 pub fn cells_of(targets: Corners) -> CellBox
     requires { Natural (corners_of targets) }
     ensures { box_of result ≡ cells_of (corners_of targets) }

@@ -3,9 +3,6 @@ use native.Mathlib.Omega.{arith}
 use Rattle.numbering.proofs.Giving.{root_place, given_new, given_old}
 use Rattle.numbering.proofs.give.give.Goals as goal
 
-pub overflow_cast-root : goal.overflow_cast-root
-overflow_cast-root c = let b = c in omega (arith, (root_place b.requires.0 b.requires.1).1)
-
 pub offset_bounds-answers-root : goal.offset_bounds-answers-root
 offset_bounds-answers-root c = let b = c in omega (arith, (root_place b.requires.0 b.requires.1).1)
 
@@ -16,20 +13,20 @@ pub offset_bounds-answers-root-then-answers-root : goal.offset_bounds-answers-ro
 offset_bounds-answers-root-then-answers-root c = let b = c in omega (arith, (root_place b.requires.0 b.requires.1).1)
 
 pub bounds-answers-root-then-answers-root : goal.bounds-answers-root-then-answers-root
-bounds-answers-root-then-answers-root c = let b = c in (root_place b.requires.0 b.requires.1).0
+bounds-answers-root-then-answers-root c = let b = c in rw c.from-root.ensures (root_place b.requires.0 b.requires.1).0
 
 pub returns-then-answers-root : goal.returns-then-answers-root
 returns-then-answers-root c =
     let b = c in
-    given_new b.requires.0 b.requires.1 (omega (arith, c.if-answers-root.true)) _ _ _ (omega arith) (omega arith) (omega arith)
+    rw c.from-root.ensures (given_new b.requires.0 b.requires.1 (rw c.from-root.ensures at c.if-answers-root.true) _ _ _ (omega arith) (omega arith) (omega arith))
 
 pub offset_bounds-answers-root-2 : goal.offset_bounds-answers-root-2
 offset_bounds-answers-root-2 c = let b = c in omega (arith, (root_place b.requires.0 b.requires.1).1)
 
 pub bounds-answers-root-2 : goal.bounds-answers-root-2
-bounds-answers-root-2 c = let b = c in (root_place b.requires.0 b.requires.1).0
+bounds-answers-root-2 c = let b = c in rw c.from-root.ensures (root_place b.requires.0 b.requires.1).0
 
 pub returns : goal.returns
 returns c =
     let b = c in
-    given_old b.requires.0 b.requires.1 (λ e. omega (arith, e, c.if-answers-root.false)) _ (omega arith)
+    rw c.from-root.ensures (given_old b.requires.0 b.requires.1 (rw c.from-root.ensures at c.if-answers-root.false) _ (omega arith))

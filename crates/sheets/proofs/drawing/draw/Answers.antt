@@ -1,8 +1,5 @@
 -- `sheets::drawing::draw`: the field call answers, and the sheet shows what it answers.
-use mathlib.Core.Path.{refl, sym}
-use Prim.Native.Nat.{ℕ}
-use lib.IntN.{ℤ, pos}
-use lib.ListN.{length-replicate}
+use mathlib.Core.Path.{refl}
 use Rattle.walkgraph.specs.Buffers.{Lent}
 use Rattle.walkgraph.specs.Refusals.{FieldInput}
 use Rattle.walkgraph.specs.Promise.{FieldPromise}
