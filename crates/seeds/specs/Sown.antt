@@ -7,10 +7,6 @@ use Rattle.disjoint.specs.Forest.{of}
 use Rattle.cellstate.specs.Labels.{owner_of, depth_of}
 use Rattle.visits.specs.SearchState.{Walks, Seeds, Planting}
 
--- what a fields call is given
-abbrev pub input_of : (width height : ℕ) (cells indices ends : List ℕ) → JoinInput
-input_of width height cells indices ends = record { width = width; height = height; cells = cells; indices = indices; ends = ends }
-
 -- a fields call that is not refused: its map, at most 512 lists that never fall, and indices of cells
 pub record Sowable (i : JoinInput) : Type 0 where
   pub wide : (1 ≤ i.width) × (i.width ≤ 1024)

@@ -38,7 +38,7 @@ shape_of-states c = seeded_states c.requires c.loop-r.invariant.1
 pub returns : goal.returns
 returns c =
     let l = c.loop-r in
-    let e : l.r ≡ length c.args.ends.now = omega arith in
+    let e : l.r ≡ length c.args.given.ends.now = omega arith in
     let s = l.invariant.0 in
     let x = c.begin.ensures.lent in
     record { lent = (s.0, (s.1.0 ∙ x.0, s.1.1 ∙ x.1)); sown = rw e at (sown_all l.invariant.1) }

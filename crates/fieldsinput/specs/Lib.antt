@@ -1,0 +1,2 @@
+-- What the fields call is given.
+pub mod Input
