@@ -8,10 +8,11 @@ ghost use Rattle.fieldsrefusals.specs.Lengths.{lengths_of};
 
 use accessrefusal;
 use badgrid;
+use fieldsinput::FieldsInput;
 use refusal::Refusal;
 
 // The lengths of the lent buffers.
-// Stays: `judged` reads nothing else of the five buffers, and these in its parameters' place would make ten parameters of its six.
+// Stays: `judged` reads nothing else of the five buffers, and these in its parameters' place would make six parameters of its two.
 #[derive(Clone, Copy)]
 pub struct Lent {
     pub states: usize,
@@ -35,26 +36,19 @@ fn room_ok(cells: usize, resources: usize, lent: Lent) -> bool
 
 // The verdict on a call.
 #[tactic(auto, using(crate::proofs::Cells::cells_are), unfolding(judge::specs::Verdicts::verdict_of, walkgraph::specs::Refusals::join_verdict, walkgraph::specs::Refusals::judge))]
-pub fn judged(
-    width: u32,
-    height: u32,
-    cells: &[u8],
-    indices: &[u32],
-    ends: &[u32],
-    lent: Lent,
-) -> Result<(), Refusal>
-    ensures { verdict_of result ≡ join_verdict width height cells.now indices.now ends.now (lengths_of lent) }
+pub fn judged(given: FieldsInput<'_>, lent: Lent) -> Result<(), Refusal>
+    ensures { verdict_of result ≡ join_verdict given.entry.width given.entry.height given.entry.cells.now given.entry.indices.now given.entry.ends.now (lengths_of lent) }
 {
-    if !badgrid::grid_ok(width, height, cells) {
+    if !badgrid::grid_ok(given.width, given.height, given.cells) {
         return Err(Refusal::BadGrid);
     }
-    if 512 < ends.len() {
+    if 512 < given.ends.len() {
         return Err(Refusal::Count);
     }
-    if !accessrefusal::lists_ok(cells.len(), indices, ends) {
+    if !accessrefusal::lists_ok(given.cells.len(), given.indices, given.ends) {
         return Err(Refusal::Access);
     }
-    if !room_ok(cells.len(), ends.len(), lent) {
+    if !room_ok(given.cells.len(), given.ends.len(), lent) {
         return Err(Refusal::Scratch);
     }
     Ok(())
