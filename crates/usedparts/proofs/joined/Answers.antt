@@ -5,14 +5,14 @@ use Prim.Native.Nat.{ℕ, ◌≤◌}
 use lib.ListN.{length, take, drop, length-append, length-drop}
 use native.Mathlib.Omega.{arith}
 use lib.Seq.{length-take-le}
-use Rattle.seeds.specs.Sown.{input_of}
+use Rattle.fieldsinput.specs.Input.{as_input}
 use Rattle.usedparts.specs.Lent.{lent}
 use Rattle.usedparts.proofs.Passed.{Passed, passed, may_seed, made}
 use Rattle.usedparts.proofs.joined.Goals.{Start}
 use Rattle.usedparts.proofs.joined.Goals as goal
 
-known : (c : Start) → Passed ((let a = c.args in input_of a.width a.height a.cells.now a.indices.now a.ends.now)) ((let a = c.args in lent a.states.now a.queue.now a.parents.now a.ranks.now a.answers.now))
-known c = passed ((let a = c.args in input_of a.width a.height a.cells.now a.indices.now a.ends.now)) ((let a = c.args in lent a.states.now a.queue.now a.parents.now a.ranks.now a.answers.now)) c.requires
+known : (c : Start) → Passed (as_input c.args.given) ((let a = c.args in lent a.states.now a.queue.now a.parents.now a.ranks.now a.answers.now))
+known c = passed (as_input c.args.given) ((let a = c.args in lent a.states.now a.queue.now a.parents.now a.ranks.now a.answers.now)) c.requires
 
 pub slice_bounds-numbers-end : goal.slice_bounds-numbers-end
 slice_bounds-numbers-end c = (known (goal.at.slice_bounds-numbers-end c).Start).room.states
