@@ -3,7 +3,7 @@ use mathlib.Core.Path.{◌≡◌, sym, ◌∙◌, ap}
 use Rattle.std.proofs.lemmas.Result.{err_from_is_err_and}
 use Rattle.walkgraph.specs.FieldsPromise.{lengths_of, fields_verdict, refuses, joins}
 use Rattle.judge.specs.Verdicts.{verdict_of}
-use Rattle.seeds.specs.Sown.{input_of}
+use Rattle.fieldsinput.specs.Input.{as_input}
 use Rattle.usedparts.specs.Lent.{lent}
 use Rattle.countanswer.specs.Answers.{joined_of}
 use Rattle.fields.proofs.call.fields.Goals.{After-judged}
@@ -11,7 +11,7 @@ use Rattle.fields.proofs.call.fields.Goals as goal
 
 -- the verdict is the table's
 told : (c : After-judged) → let a = c.args in
-    fields_verdict (input_of a.width a.height a.cells.now a.indices.now a.ends.now) (lent a.states.now a.queue.now a.parents.now a.ranks.now a.answers.now) ≡ verdict_of c.judged.result
+    fields_verdict (as_input a.given) (lent a.states.now a.queue.now a.parents.now a.ranks.now a.answers.now) ≡ verdict_of c.judged.result
 unfolding fields_verdict lengths_of
 told c = sym c.judged.ensures
 
