@@ -5,35 +5,25 @@
 ghost use Rattle.std.specs.Prelude.{◌≡◌};
 ghost use Rattle.walkgraph.specs.Refusals.{accepted};
 ghost use Rattle.walkgraph.specs.FieldsPromise.{fields_verdict};
-ghost use Rattle.seeds.specs.Sown.{input_of};
+ghost use Rattle.fieldsinput.specs.Input.{as_input};
 ghost use Rattle.groups.specs.Groups.{zero_join, Joins, GroupsFit, Grouped};
 
 use accesslists::call as lists;
 use fields::call;
+use fieldsinput::FieldsInput;
 use roomlimits;
 
 // How many fields the resources form whose access cells are listed, and the field of each.
-fn joined(
-    width: u32,
-    height: u32,
-    cells: &[u8],
-    indices: &[u32],
-    ends: &[u32],
-    answers: &mut [u16],
-) -> usize
-    requires { fields_verdict (input_of width height cells.now indices.now ends.now) (zero_join answers.old) ≡ accepted }
-    ensures { Joins (input_of width height cells.now indices.now ends.now) answers.old answers.new result }
+fn joined(given: FieldsInput<'_>, answers: &mut [u16]) -> usize
+    requires { fields_verdict (as_input given) (zero_join answers.old) ≡ accepted }
+    ensures { Joins (as_input given.entry) answers.old answers.new result }
 {
     let mut states: [u16; 3600] = [0; 3600];
     let mut queue: [u32; 3600] = [0; 3600];
     let mut parents: [u16; 8] = [0; 8];
     let mut ranks: [u8; 8] = [0; 8];
     call::fields(
-        width,
-        height,
-        cells,
-        indices,
-        ends,
+        given,
         &mut states,
         &mut queue,
         &mut parents,
@@ -58,12 +48,12 @@ pub fn groups(
     let mut ends: [u32; 8] = [0; 8];
     let found = lists::access_lists(width, height, cells, resources, &mut indices, &mut ends);
     let count = found.unwrap();
-    joined(
+    let given = FieldsInput {
         width,
         height,
         cells,
-        &indices[..count],
-        &ends[..resources.len() / 4],
-        answers,
-    )
+        indices: &indices[..count],
+        ends: &ends[..resources.len() / 4],
+    };
+    joined(given, answers)
 }

@@ -34,14 +34,14 @@ unwrap-count-requires c = lists_ok c.requires c.access_lists-found.result (rw c.
 pub slice_bounds-indices-end : goal.slice_bounds-indices-end
 slice_bounds-indices-end c = (long (goal.at.slice_bounds-indices-end c).After-unwrap-count (made (goal.at.slice_bounds-indices-end c).After-unwrap-count)).0
 
-pub slice_bounds-joined-end : goal.slice_bounds-joined-end
-slice_bounds-joined-end c = sym (length-take-le _ (c.access_lists-found.new.indices) (long (goal.at.slice_bounds-joined-end c).After-unwrap-count (made (goal.at.slice_bounds-joined-end c).After-unwrap-count)).0)
+pub slice_bounds-given-end : goal.slice_bounds-given-end
+slice_bounds-given-end c = sym (length-take-le _ (c.access_lists-found.new.indices) (long (goal.at.slice_bounds-given-end c).After-unwrap-count (made (goal.at.slice_bounds-given-end c).After-unwrap-count)).0)
 
 pub slice_bounds-ends-end : goal.slice_bounds-ends-end
 slice_bounds-ends-end c = (long (goal.at.slice_bounds-ends-end c).After-unwrap-count (made (goal.at.slice_bounds-ends-end c).After-unwrap-count)).1
 
-pub slice_bounds-joined-end-2 : goal.slice_bounds-joined-end-2
-slice_bounds-joined-end-2 c = sym (length-take-le _ (c.access_lists-found.new.ends) (long (goal.at.slice_bounds-joined-end-2 c).After-unwrap-count (made (goal.at.slice_bounds-joined-end-2 c).After-unwrap-count)).1)
+pub slice_bounds-given-end-2 : goal.slice_bounds-given-end-2
+slice_bounds-given-end-2 c = sym (length-take-le _ (c.access_lists-found.new.ends) (long (goal.at.slice_bounds-given-end-2 c).After-unwrap-count (made (goal.at.slice_bounds-given-end-2 c).After-unwrap-count)).1)
 
 pub joined-requires : goal.joined-requires
 joined-requires c = join_accepted c.requires (made (goal.at.joined-requires c).After-unwrap-count)

@@ -2,7 +2,7 @@
 use mathlib.Core.Path.{sym}
 use Prim.Native.Nat.{ℕ}
 use lib.ListN.{length-replicate}
-use Rattle.seeds.specs.Sown.{input_of}
+use Rattle.fieldsinput.specs.Input.{as_input}
 use Rattle.usedparts.specs.Lent.{lent}
 use Rattle.countanswer.specs.Answers.{joined_of}
 use Rattle.groups.specs.Groups.{zero_join}
@@ -23,9 +23,9 @@ slice_bounds-fields-end-4 c = sym (length-replicate {A = ℕ} 8 0)
 
 pub unwrap-requires : goal.unwrap-requires
 unwrap-requires c =
-    join_ok (let a = c.args in input_of a.width a.height a.cells.now a.indices.now a.ends.now) (zero_join c.args.answers.now) {after = (let l = c.fields.new in lent l.states l.queue l.parents l.ranks l.answers)} c.fields.result c.requires c.fields.ensures
+    join_ok (as_input c.args.given) (zero_join c.args.answers.now) {after = (let l = c.fields.new in lent l.states l.queue l.parents l.ranks l.answers)} c.fields.result c.requires c.fields.ensures
 
 pub returns : goal.returns
 unfolding joined_of
 returns c =
-    join_found (let a = c.args in input_of a.width a.height a.cells.now a.indices.now a.ends.now) c.args.answers.now {after = (let l = c.fields.new in lent l.states l.queue l.parents l.ranks l.answers)} (rw c.unwrap.ensures at c.fields.ensures)
+    join_found (as_input c.args.given) c.args.answers.now {after = (let l = c.fields.new in lent l.states l.queue l.parents l.ranks l.answers)} (rw c.unwrap.ensures at c.fields.ensures)
