@@ -10,7 +10,7 @@ ghost use Rattle.plan.specs.Plans.{input_of};
 ghost use Rattle.make.specs.Makes.{lent};
 ghost use Rattle.reading.specs.Parts.{as_part};
 ghost use Rattle.recordreading.specs.Records.{record_from};
-ghost use Rattle.seeds.specs.Sown as sown;
+ghost use Rattle.fieldsinput.specs.Input as fieldsinput;
 ghost use Rattle.usedparts.specs.Lent as fields;
 ghost use Rattle.manyrectangles.specs.Listing as lists;
 ghost use Rattle.cerandool.specs.Exports.{FieldExported, AccessExported, AccessListsExported, FieldsExported};
@@ -24,6 +24,7 @@ use countanswer;
 use countanswer::CountAnswer;
 use field::buffers::Buffers;
 use fields;
+use fieldsinput::FieldsInput;
 use fournumbers::Corners;
 use reading::Part;
 use recordreading;
@@ -154,13 +155,18 @@ pub extern "C" fn cerandool_fields(
     ranks: &mut [u8],
     answers: &mut [u16],
 ) -> CountAnswer
-    ensures { FieldsExported (sown.input_of width height cells.now indices.now ends.now)
+    ensures { FieldsExported (fieldsinput.input_of width height cells.now indices.now ends.now)
         (fields.lent states.old queue.old parents.old ranks.old answers.old)
         (fields.lent states.new queue.new parents.new ranks.new answers.new) result }
 {
-    let answer = fields::call::fields(
-        width, height, cells, indices, ends, states, queue, parents, ranks, answers,
-    );
+    let given = FieldsInput {
+        width,
+        height,
+        cells,
+        indices,
+        ends,
+    };
+    let answer = fields::call::fields(given, states, queue, parents, ranks, answers);
     countanswer::numbers(answer)
 }
 

@@ -1,5 +1,5 @@
 -- `cerandool::cerandool_fields`: the answer's numbers are u32s.
-use Rattle.seeds.specs.Sown.{input_of}
+use Rattle.fieldsinput.specs.Input.{input_of}
 use Rattle.usedparts.specs.Lent.{lent}
 use Rattle.cerandool.proofs.Counts.{joined_in_u32}
 use Rattle.cerandool.proofs.cerandool_fields.Goals as goal
