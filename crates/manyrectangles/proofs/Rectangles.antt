@@ -14,7 +14,7 @@ use Rattle.walkgraph.specs.Refusals.{bad_grid, bad_resource}
 use Rattle.walkgraph.proofs.Tests.{cond_ind}
 use Rattle.cells.specs.declared.boxes.CellBox.{CellBox}
 use Rattle.cells.specs.Boxes.{box_of}
-use Rattle.rings.specs.declared.ring.Ring.{Ring}
+use Rattle.cells.specs.declared.boxes.Ring.{Ring}
 use Rattle.rings.specs.Rings.{RingOf, Accepted}
 use Rattle.rings.proofs.Search.{all_good}
 use Rattle.rings.proofs.Sources.{has_ring}

@@ -14,7 +14,7 @@ use Rattle.walkgraph.specs.Ring.{body, ring_box}
 use Rattle.walkgraph.specs.Window.{hull, sources}
 use Rattle.walkgraph.specs.Refusals.{bad_resource}
 use Rattle.walklaws.proofs.Maps.{OnMap}
-use Rattle.rings.specs.declared.ring.Ring.{Ring}
+use Rattle.cells.specs.declared.boxes.Ring.{Ring}
 use Rattle.std.specs.Prelude.{Option, Some, None, is_some, IsSome}
 use Rattle.cells.specs.Boxes.{InMap}
 use Rattle.rings.specs.Rings.{Accepted, RingOf, AllRings, around}

@@ -6,7 +6,7 @@ use Rattle.walkgraph.specs.Ring.{body, ring_box}
 use Rattle.walkgraph.specs.Window.{hull}
 use Rattle.walkgraph.specs.Refusals.{bad_resource, first_bad_resource}
 use Rattle.cells.specs.declared.boxes.CellBox.{CellBox}
-use Rattle.rings.specs.declared.ring.Ring.{Ring}
+use Rattle.cells.specs.declared.boxes.Ring.{Ring}
 use Rattle.cells.specs.Boxes.{box_of}
 
 -- "a rectangle is four i32: left, top, right, bottom"

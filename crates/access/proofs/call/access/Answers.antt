@@ -37,7 +37,7 @@ returns-in_default c =
     resource_refused c.args.width c.args.height c.args.cells.now (corners_of c.args.rectangle) _ (good-map (goal.at.returns-in_default c).Else-not-grid_ok) (rw c.in_default.is at (ring-told (goal.at.returns-in_default c).After-ring_of-found))
 
 -- its ring box and its body
-present : (c : In-Some) → (RingOf c.args.width c.args.height (corners_of c.args.rectangle) c.ring_of-found.result) → Accepted c.args.width c.args.height (corners_of c.args.rectangle) c.in-Some.field-0.ring c.in-Some.field-0.body
+present : (c : In-Some) → (RingOf c.args.width c.args.height (corners_of c.args.rectangle) c.ring_of-found.result) → Accepted c.args.width c.args.height (corners_of c.args.rectangle) c.in-Some.ring.ring c.in-Some.ring.body
 unfolding RingOf
 present c of_ring-told = rw c.in-Some.is at of_ring-told
 
