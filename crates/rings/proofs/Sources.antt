@@ -43,7 +43,7 @@ unfolding RingOf
 has_ring w h r (Some found) o e = search rules
 has_ring w h r None o e = absurd (clash (sym o ∙ e))
 
-pub found_ring : (w h : ℕ) (r : Rectangle) {ring : Option Ring} (found : Ring) → RingOf w h r ring → ring ≡ Some found → Accepted w h r found.ring found.body
+pub found_ring : (w h : ℕ) (r : Rectangle) {ring : Option Ring} (found : Ring) → RingOf w h r ring → ring ≡ Some found → Accepted w h r found
 unfolding RingOf
 found_ring w h r found o e = rw e at o
 

@@ -18,7 +18,7 @@ unwrap-ring-requires c = has_ring _ _ _ _ c.ring_at.ensures (good (goal.at.unwra
 pub start_ring-requires : goal.start_ring-requires
 start_ring-requires c =
     let p = c.requires in
-    (p.0, ring_limits _ _ _ _ _ p.1.wide p.1.high (found_ring _ _ _ c.unwrap-ring.result c.ring_at.ensures c.unwrap-ring.ensures), p.3)
+    (p.0, ring_limits _ _ _ _ p.1.wide p.1.high (found_ring _ _ _ c.unwrap-ring.result c.ring_at.ensures c.unwrap-ring.ensures), p.3)
 
 pub returns : goal.returns
 returns c =

@@ -15,11 +15,11 @@ pub unwrap-ring-requires : goal.unwrap-ring-requires
 unwrap-ring-requires c = there_is_ring c.requires _ c.ring_at.ensures
 
 -- its ring box and its body
-found : (c : After-unwrap-ring) → Accepted c.args.width c.args.height (rectangle c.args.rectangles.now c.args.k) c.unwrap-ring.result.ring c.unwrap-ring.result.body
+found : (c : After-unwrap-ring) → Accepted c.args.width c.args.height (rectangle c.args.rectangles.now c.args.k) c.unwrap-ring.result
 found c = found_ring _ _ _ c.unwrap-ring.result c.ring_at.ensures c.unwrap-ring.ensures
 
 pub count_rows-requires : goal.count_rows-requires
-count_rows-requires c = one_on_map c.requires _ _ (found (goal.at.count_rows-requires c).After-unwrap-ring)
+count_rows-requires c = one_on_map c.requires _ (found (goal.at.count_rows-requires c).After-unwrap-ring)
 
 pub returns : goal.returns
-returns c = c.count_rows.ensures ∙ ap length (one_cells c.requires _ _ (found (goal.at.returns c).After-unwrap-ring))
+returns c = c.count_rows.ensures ∙ ap length (one_cells c.requires _ (found (goal.at.returns c).After-unwrap-ring))
