@@ -7,7 +7,7 @@ use Rattle.walkgraph.specs.Painting.{Rectangle}
 use Rattle.walkgraph.specs.Refusals.{bad_grid, bad_resource, access_verdict}
 use Rattle.walkgraph.specs.AccessPromise.{AccessPromise, refusal}
 use Rattle.walkgraph.specs.AccessPromise as promise
-use Rattle.cells.specs.declared.boxes.CellBox.{CellBox}
+use Rattle.cells.specs.declared.boxes.Ring.{Ring}
 use Rattle.cells.specs.Boxes.{box_of}
 use Rattle.rings.specs.Rings.{Accepted}
 use Rattle.judge.proofs.Judging.{refuses, passes}
@@ -30,6 +30,6 @@ module _ (w h : ℕ) (cells : List ℕ) (r : Rectangle) where
   resource_refused before d e = promise.refuses (sym (passes 1 0 d (refuses _ e)))
 
   -- ---- a resource that is not refused: what is listed of its ring are its access cells
-  module _ (good_grid : bad_grid w h cells ≡ false) (good : bad_resource w h r ≡ false) (ring core : CellBox) (e : Accepted w h r ring core) where
-    pub ring_answered : {before after : List ℕ} {a : Result ℕ Refusal} → RingListed (ring_places cells w (box_of ring) (box_of core)) before after a → AccessPromise w h cells r before after (listed_of a)
-    ring_answered l = answered w h cells r good_grid good (rw (found_access w h cells r good_grid good ring core e) at l)
+  module _ (good_grid : bad_grid w h cells ≡ false) (good : bad_resource w h r ≡ false) (ring : Ring) (e : Accepted w h r ring) where
+    pub ring_answered : {before after : List ℕ} {a : Result ℕ Refusal} → RingListed (ring_places cells w (box_of ring.ring) (box_of ring.body)) before after a → AccessPromise w h cells r before after (listed_of a)
+    ring_answered l = answered w h cells r good_grid good (rw (found_access w h cells r good_grid good ring e) at l)

@@ -8,7 +8,6 @@ use fournumbers::Corners;
 use refusal::Refusal;
 use ringanswer;
 use rings::ring;
-use rings::ring::Ring;
 
 // Access of a rectangle: the indices of its access cells by row, then column, and how many there are; or a refusal, and nothing is written.
 pub fn access(
@@ -25,8 +24,8 @@ pub fn access(
     }
     let columns = width as usize;
     let found = ring::ring_of(rectangle, columns, height as usize);
-    let Some(Ring { ring, body }) = found else {
+    let Some(ring) = found else {
         return Err(Refusal::BadResource { first: 0 });
     };
-    ringanswer::list_ring(cells, ring, body, columns, out)
+    ringanswer::list_ring(cells, ring, columns, out)
 }

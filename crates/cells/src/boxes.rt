@@ -8,3 +8,10 @@ pub struct CellBox {
     pub right: usize,
     pub bottom: usize,
 }
+
+// The ring box and the body of an accepted resource.
+#[derive(Clone, Copy)]
+pub struct Ring {
+    pub ring: CellBox,
+    pub body: CellBox,
+}

@@ -11,8 +11,9 @@ use mir.Syntax.{w64}
 use mir.Val.{Fits}
 use lib.Dec.{T, leb, ltb, leb→le, ltb→lt, lt→ltb}
 use lib.Arith.{digits_div, digits_mod}
-use lib.ListN.{length}
+use lib.ListN.{length, take}
 use borrow.Author.Tests.{eq-eqb, ne_eqb}
+use Rattle.std.proofs.lemmas.Grind.{common_steps}
 use Rattle.walkgraph.proofs.Tests.{by_cases, and_left, and_right, and_pair}
 use Rattle.walkgraph.proofs.Places.{flat_lt}
 use Rattle.walkgraph.proofs.DisjointSet.{Same}
@@ -57,6 +58,26 @@ pub record Round (width height : ℕ) (states₀ queue₀ parents₀ over down l
   pub more : tail₀ ≤ tail
   pub ended : (i : ℕ) → i < j →
       Ended width states parents (of queue₀ head % 1024) (of queue₀ head / 1024) (of states₀ (cell_of width (of queue₀ head))) (of over (of list i)) (of down (of list i))
+
+-- the first entries of a list are those of the list
+pub taken : (list : List ℕ) (count j : ℕ) → j < count → of (take count list) j ≡ of list j
+taken list count j h = grind (arith, common_steps)
+
+-- what was done by the first entries of a list was done by the list
+pub round_taken : {width height : ℕ} {states₀ queue₀ parents₀ over down list : List ℕ} {tail₀ head : ℕ} {states queue parents ranks : List ℕ} {tail count : ℕ} →
+    Round width height states₀ queue₀ parents₀ over down (take count list) tail₀ head states queue parents ranks tail count →
+    Round width height states₀ queue₀ parents₀ over down list tail₀ head states queue parents ranks tail count
+round_taken {list = list} {count = count} R =
+    record {
+      searching = R.searching;
+      grown = R.grown;
+      alike = R.alike;
+      kept = R.kept;
+      walks = R.walks;
+      places = R.places;
+      more = R.more;
+      ended = λ i h. rw (taken list count i h) at (R.ended i h);
+    }
 
 -- a test of a move, as facts
 pub inside_is : {width height x y : ℕ} {over down steps : List ℕ} → Table width over down steps → (k : ℕ) → k < 8 → T (is_inside width height x y over down k) →

@@ -31,8 +31,8 @@ pub fn expand(
     let index = y * width + x;
     let state = states[index];
     let count = list::listed(states, width, height, x, y, state, directions, picked);
-    for j in 0..count {
-        let k = usize::from(picked[j]);
+    for &number in &picked[..count] {
+        let k = usize::from(number);
         visit::visit(
             states,
             queue,

@@ -12,9 +12,8 @@ use Rattle.walkgraph.specs.Painting.{Rectangle, rectangle}
 use Rattle.walkgraph.specs.Ring.{ring_box, access, places_in_row, places_in_rows, access_cells}
 use Rattle.walkgraph.specs.Refusals.{bad_grid, bad_resource}
 use Rattle.walkgraph.proofs.Tests.{cond_ind}
-use Rattle.cells.specs.declared.boxes.CellBox.{CellBox}
 use Rattle.cells.specs.Boxes.{box_of}
-use Rattle.rings.specs.declared.ring.Ring.{Ring}
+use Rattle.cells.specs.declared.boxes.Ring.{Ring}
 use Rattle.rings.specs.Rings.{RingOf, Accepted}
 use Rattle.rings.proofs.Search.{all_good}
 use Rattle.rings.proofs.Sources.{has_ring}
@@ -68,10 +67,10 @@ module _ {w h : ℕ} {cells : List ℕ} {l : List ℤ} {k : ℕ} (o : OneOf w h 
   there_is_ring ring e = has_ring w h (rectangle l k) ring e good
 
   -- its ring box and its body as the code has them
-  module _ (ring core : CellBox) (e : Accepted w h (rectangle l k) ring core) where
-    pub one_on_map : OnMap w (length cells) (box_of ring) (box_of core)
-    one_on_map = found_on_map w h cells (rectangle l k) o.judged.map good ring core e
+  module _ (ring : Ring) (e : Accepted w h (rectangle l k) ring) where
+    pub one_on_map : OnMap w (length cells) (box_of ring.ring) (box_of ring.body)
+    one_on_map = found_on_map w h cells (rectangle l k) o.judged.map good ring e
 
-    pub one_cells : ring_places cells w (box_of ring) (box_of core) ≡ cells_of w h cells l k
+    pub one_cells : ring_places cells w (box_of ring.ring) (box_of ring.body) ≡ cells_of w h cells l k
     unfolding cells_of
-    one_cells = found_access w h cells (rectangle l k) o.judged.map good ring core e
+    one_cells = found_access w h cells (rectangle l k) o.judged.map good ring e

@@ -6,15 +6,14 @@ ghost use Rattle.manyrectangles.specs.Listing.{OneOf, OneFits};
 
 use ringrows::rows;
 use rings::ring;
-use rings::ring::Ring;
 
 // How many access cells rectangle k has.
 pub fn count_one(cells: &[u8], rectangles: &[i32], k: usize, width: usize, height: usize) -> usize
     requires { OneOf width height cells.now rectangles.now k }
     ensures { result ≡ length (cells_of width height cells.now rectangles.now k) }
 {
-    let Ring { ring, body } = ring::ring_at(rectangles, k, width, height).unwrap();
-    rows::count_rows(cells, ring, body, width)
+    let ring = ring::ring_at(rectangles, k, width, height).unwrap();
+    rows::count_rows(cells, ring, width)
 }
 
 // Lists the access cells of rectangle k behind used entries; answers how many are used then. The part behind them is lent on.
@@ -30,6 +29,6 @@ pub fn list_one(
     requires { OneFits width height cells.now rectangles.now k used (length indices.old) }
     ensures { Listed (cells_of width height cells.now rectangles.now k) indices.old used indices.new result }
 {
-    let Ring { ring, body } = ring::ring_at(rectangles, k, width, height).unwrap();
-    used + rows::list_rows(cells, ring, body, width, &mut indices[used..])
+    let ring = ring::ring_at(rectangles, k, width, height).unwrap();
+    used + rows::list_rows(cells, ring, width, &mut indices[used..])
 }

@@ -37,8 +37,8 @@ pub fn near(
     ensures { Picked (is_near states.now width index steps.now low) 8 list.new result }
 {
     let mut count: usize = 0;
-    for k in 0..8 {
-        count = keep(list, count, k, low < states[index + steps[k] - width - 1]);
+    for (k, &step) in steps.iter().enumerate() {
+        count = keep(list, count, k, low < states[index + step - width - 1]);
     }
     count
 }
@@ -57,6 +57,7 @@ pub fn edge(
     ensures { Picked (is_inside width height x y over.now down.now) 8 list.new result }
 {
     let mut count: usize = 0;
+    // Stays: the number k is what is listed, and two tables are read at it.
     for k in 0..8 {
         list[count] = k as u8;
         count += within(x + over[k], width) * within(y + down[k], height);

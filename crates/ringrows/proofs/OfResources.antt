@@ -9,7 +9,7 @@ use lib.ListN.{length}
 use Rattle.walkgraph.specs.Painting.{Rectangle}
 use Rattle.walkgraph.specs.Ring.{body, ring_box, access_cells}
 use Rattle.walkgraph.specs.Refusals.{bad_grid, bad_resource}
-use Rattle.cells.specs.declared.boxes.CellBox.{CellBox}
+use Rattle.cells.specs.declared.boxes.Ring.{Ring}
 use Rattle.cells.specs.Boxes.{box_of}
 use Rattle.rings.specs.Rings.{Accepted}
 use Rattle.rings.proofs.Sides.{on_map}
@@ -48,9 +48,9 @@ module _ (w h : ℕ) (cells : List ℕ) (r : Rectangle) (good_grid : bad_grid w 
       }
 
   -- of its ring box and its body as the code has them
-  module _ (ring core : CellBox) (e : Accepted w h r ring core) where
-    pub found_on_map : OnMap w (length cells) (box_of ring) (box_of core)
+  module _ (ring : Ring) (e : Accepted w h r ring) where
+    pub found_on_map : OnMap w (length cells) (box_of ring.ring) (box_of ring.body)
     found_on_map = rw (e.ring, e.body) ring_on_map
 
-    pub found_access : ring_places cells w (box_of ring) (box_of core) ≡ access_cells w h cells r
+    pub found_access : ring_places cells w (box_of ring.ring) (box_of ring.body) ≡ access_cells w h cells r
     found_access = rw (e.ring, e.body) (ring_accessed w h cells r ring_on_map.grid (ring_in_map w h r (on_map w h r good)).tall)

@@ -5,7 +5,7 @@ ghost use Rattle.std.specs.Prelude.{◌≡◌, ◌≤◌};
 ghost use Rattle.cells.specs.Boxes.{box_of};
 ghost use Rattle.ringruns.specs.Runs.{OnGrid, row_runs};
 
-use cells::boxes::CellBox;
+use cells::boxes::Ring;
 
 // Two runs of cells: before the body and after it, or a whole row and none. Each by the index of its first cell.
 #[derive(Clone, Copy)]
@@ -18,22 +18,22 @@ pub struct Runs {
 
 // The runs of row y of a ring, on a map of width columns.
 #[tactic(auto, using(crate::proofs::RowRuns::row_start), unfolding(crate::specs::Runs::row_runs))]
-pub fn row_runs(ring: CellBox, body: CellBox, width: usize, y: usize) -> Runs
-    requires { OnGrid width (box_of ring) (box_of body) × (y ≤ ring.bottom) }
-    ensures { result ≡ row_runs width (box_of ring) (box_of body) y }
+pub fn row_runs(ring: Ring, width: usize, y: usize) -> Runs
+    requires { OnGrid width (box_of ring.ring) (box_of ring.body) × (y ≤ ring.ring.bottom) }
+    ensures { result ≡ row_runs width (box_of ring.ring) (box_of ring.body) y }
 {
     let start = y * width;
-    if body.top <= y && y <= body.bottom {
+    if ring.body.top <= y && y <= ring.body.bottom {
         Runs {
-            first: start + ring.left,
-            before: body.left - ring.left,
-            second: start + body.right + 1,
-            after: ring.right - body.right,
+            first: start + ring.ring.left,
+            before: ring.body.left - ring.ring.left,
+            second: start + ring.body.right + 1,
+            after: ring.ring.right - ring.body.right,
         }
     } else {
         Runs {
-            first: start + ring.left,
-            before: ring.right + 1 - ring.left,
+            first: start + ring.ring.left,
+            before: ring.ring.right + 1 - ring.ring.left,
             second: start,
             after: 0,
         }

@@ -14,7 +14,7 @@ use Rattle.walkgraph.specs.Ring.{body, ring_box}
 use Rattle.walkgraph.specs.Window.{hull, sources}
 use Rattle.walkgraph.specs.Refusals.{bad_resource}
 use Rattle.walklaws.proofs.Maps.{OnMap}
-use Rattle.rings.specs.declared.ring.Ring.{Ring}
+use Rattle.cells.specs.declared.boxes.Ring.{Ring}
 use Rattle.std.specs.Prelude.{Option, Some, None, is_some, IsSome}
 use Rattle.cells.specs.Boxes.{InMap}
 use Rattle.rings.specs.Rings.{Accepted, RingOf, AllRings, around}
@@ -43,7 +43,7 @@ unfolding RingOf
 has_ring w h r (Some found) o e = search rules
 has_ring w h r None o e = absurd (clash (sym o ∙ e))
 
-pub found_ring : (w h : ℕ) (r : Rectangle) {ring : Option Ring} (found : Ring) → RingOf w h r ring → ring ≡ Some found → Accepted w h r found.ring found.body
+pub found_ring : (w h : ℕ) (r : Rectangle) {ring : Option Ring} (found : Ring) → RingOf w h r ring → ring ≡ Some found → Accepted w h r found
 unfolding RingOf
 found_ring w h r found o e = rw e at o
 

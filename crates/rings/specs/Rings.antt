@@ -5,8 +5,7 @@ use Rattle.walkgraph.specs.Painting.{Rectangle}
 use Rattle.walkgraph.specs.Ring.{body, ring_box}
 use Rattle.walkgraph.specs.Window.{hull}
 use Rattle.walkgraph.specs.Refusals.{bad_resource, first_bad_resource}
-use Rattle.cells.specs.declared.boxes.CellBox.{CellBox}
-use Rattle.rings.specs.declared.ring.Ring.{Ring}
+use Rattle.cells.specs.declared.boxes.Ring.{Ring}
 use Rattle.cells.specs.Boxes.{box_of}
 
 -- "a rectangle is four i32: left, top, right, bottom"
@@ -14,14 +13,14 @@ abbrev pub corners : ℤ → ℤ → ℤ → ℤ → Rectangle
 corners left top right bottom = record { left = left; top = top; right = right; bottom = bottom }
 
 -- the ring box and the body of an accepted resource
-pub record Accepted (width height : ℕ) (r : Rectangle) (ring_cells body_cells : CellBox) : Type 0 where
+pub record Accepted (width height : ℕ) (r : Rectangle) (found : Ring) : Type 0 where
   pub good : bad_resource width height r ≡ false
-  pub ring : box_of ring_cells ≡ ring_box width height r
-  pub body : box_of body_cells ≡ body r
+  pub ring : box_of found.ring ≡ ring_box width height r
+  pub body : box_of found.body ≡ body r
 
 -- what the code's answer says of a rectangle
 unfoldable pub RingOf : ℕ → ℕ → Rectangle → Option Ring → Type 0
-RingOf width height r (Some found) = Accepted width height r found.ring found.body
+RingOf width height r (Some found) = Accepted width height r found
 RingOf width height r None = bad_resource width height r ≡ true
 
 -- the box around a box and the ring box, if there is one

@@ -7,18 +7,11 @@ ghost use Rattle.cells.specs.Boxes.{box_of};
 ghost use Rattle.fournumbers.specs.Corners.{corners_of};
 ghost use Rattle.rings.specs.Rings.{RingOf, around, AllRings};
 
-use cells::boxes::CellBox;
+use cells::boxes::{CellBox, Ring};
 use cells::edge;
 use fournumbers;
 use fournumbers::Corners;
 use ringends;
-
-// The ring box and the body of an accepted resource.
-#[derive(Clone, Copy)]
-pub struct Ring {
-    pub ring: CellBox,
-    pub body: CellBox,
-}
 
 // Whether a span of pixels is one of a resource, along an axis of size cells.
 #[tactic(auto, unfolding(walkgraph::specs::Refusals::bad_side))]

@@ -6,7 +6,7 @@ use native.Mathlib.Omega.{arith}
 use lib.ListN.{get_or}
 use Rattle.walkgraph.specs.Map.{Box}
 use Rattle.walkgraph.specs.Painting.{Rectangle}
-use Rattle.cells.specs.declared.boxes.CellBox.{CellBox}
+use Rattle.cells.specs.declared.boxes.Ring.{Ring}
 use Rattle.cells.specs.Boxes.{box_of, InMap}
 use Rattle.rings.specs.Rings.{Accepted}
 use Rattle.window.specs.declared.record.Window.{Window}
@@ -14,8 +14,8 @@ use Rattle.start.specs.Hits.{first_column, past_column, Room, Cells}
 use Rattle.rings.proofs.Sides.{on_map}
 use Rattle.rings.proofs.Sources.{ring_in_map}
 
-pub ring_limits : (width height : ℕ) (r : Rectangle) (ring body : CellBox) → width ≤ 1024 → height ≤ 1024 → Accepted width height r ring body → InMap 1024 1024 (box_of ring)
-ring_limits width height r ring body w h a =
+pub ring_limits : (width height : ℕ) (r : Rectangle) (ring : Ring) → width ≤ 1024 → height ≤ 1024 → Accepted width height r ring → InMap 1024 1024 (box_of ring.ring)
+ring_limits width height r ring w h a =
     let i = ring_in_map width height r (on_map width height r a.good) in
     rw a.ring (record { across = i.across; wide = omega (arith, i.wide); along = i.along; tall = omega (arith, i.tall) })
 

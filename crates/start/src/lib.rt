@@ -11,7 +11,6 @@ ghost use Rattle.lane.specs.Levels.{level_at};
 ghost use Rattle.start.specs.Hits.{started_levels, ring_hit, lanes_hit, LaneRoom, LanesRoom};
 
 use rings::ring;
-use rings::ring::Ring;
 use window::record::Window;
 
 // Starts the lane of one resource.
@@ -29,8 +28,8 @@ fn start_lane(
     ensures { level_at lanes.new ≡ started_levels (level_at lanes.old) (ring_hit window walk.now rows.now
         (ring_box width height (rectangle resources.now lane)) (body (rectangle resources.now lane)) lane) }
 {
-    let Ring { ring, body } = ring::ring_at(resources, lane, width, height).unwrap();
-    ringbox::start_ring(lanes, walk, rows, window, ring, body, lane);
+    let ring = ring::ring_at(resources, lane, width, height).unwrap();
+    ringbox::start_ring(lanes, walk, rows, window, ring, lane);
 }
 
 // Starts the lanes of all resources.

@@ -13,7 +13,7 @@ pub returns-then-out-needed : goal.returns-then-out-needed
 returns-then-out-needed c = short (omega (arith, c.if-out-needed.true, c.count_rows-needed.ensures))
 
 -- there is room for the whole list
-room : (c : Else-out-needed) → let a = c.args in length (ring_places a.cells.now a.width (box_of a.ring) (box_of a.body)) ≤ length a.out.now
+room : (c : Else-out-needed) → let a = c.args in length (ring_places a.cells.now a.width (box_of a.ring.ring) (box_of a.ring.body)) ≤ length a.out.now
 room c = omega (arith, c.if-out-needed.false, c.count_rows-needed.ensures)
 
 pub list_rows-requires : goal.list_rows-requires

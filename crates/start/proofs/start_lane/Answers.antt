@@ -12,15 +12,15 @@ use Rattle.start.proofs.start_lane.Goals as goal
 good : (s : Start) → bad_resource s.args.width s.args.height (rectangle s.args.resources.now s.args.lane) ≡ false
 good s = let p = s.requires in all_good s.args.width s.args.height s.args.resources.now p.1.good s.args.lane p.2
 
-pub unwrap-requires : goal.unwrap-requires
-unwrap-requires c = has_ring _ _ _ _ c.ring_at.ensures (good (goal.at.unwrap-requires c).Start)
+pub unwrap-ring-requires : goal.unwrap-ring-requires
+unwrap-ring-requires c = has_ring _ _ _ _ c.ring_at.ensures (good (goal.at.unwrap-ring-requires c).Start)
 
 pub start_ring-requires : goal.start_ring-requires
 start_ring-requires c =
     let p = c.requires in
-    (p.0, ring_limits _ _ _ _ _ p.1.wide p.1.high (found_ring _ _ _ c.unwrap.result c.ring_at.ensures c.unwrap.ensures), p.3)
+    (p.0, ring_limits _ _ _ _ p.1.wide p.1.high (found_ring _ _ _ c.unwrap-ring.result c.ring_at.ensures c.unwrap-ring.ensures), p.3)
 
 pub returns : goal.returns
 returns c =
-    let r = found_ring _ _ _ c.unwrap.result c.ring_at.ensures c.unwrap.ensures in
+    let r = found_ring _ _ _ c.unwrap-ring.result c.ring_at.ensures c.unwrap-ring.ensures in
     rw (r.ring, r.body) at c.start_ring.ensures

@@ -37,16 +37,16 @@ returns-in_default c =
     resource_refused c.args.width c.args.height c.args.cells.now (corners_of c.args.rectangle) _ (good-map (goal.at.returns-in_default c).Else-not-grid_ok) (rw c.in_default.is at (ring-told (goal.at.returns-in_default c).After-ring_of-found))
 
 -- its ring box and its body
-present : (c : In-Some) → (RingOf c.args.width c.args.height (corners_of c.args.rectangle) c.ring_of-found.result) → Accepted c.args.width c.args.height (corners_of c.args.rectangle) c.in-Some.field-0.ring c.in-Some.field-0.body
+present : (c : In-Some) → (RingOf c.args.width c.args.height (corners_of c.args.rectangle) c.ring_of-found.result) → Accepted c.args.width c.args.height (corners_of c.args.rectangle) c.in-Some.ring
 unfolding RingOf
 present c of_ring-told = rw c.in-Some.is at of_ring-told
 
 pub list_ring-requires : goal.list_ring-requires
 list_ring-requires c =
     let p = present (goal.at.list_ring-requires c).In-Some (ring-told (goal.at.list_ring-requires c).After-ring_of-found) in
-    found_on_map c.args.width c.args.height c.args.cells.now (corners_of c.args.rectangle) (good-map (goal.at.list_ring-requires c).Else-not-grid_ok) p.good _ _ p
+    found_on_map c.args.width c.args.height c.args.cells.now (corners_of c.args.rectangle) (good-map (goal.at.list_ring-requires c).Else-not-grid_ok) p.good _ p
 
 pub returns : goal.returns
 returns c =
     let p = present (goal.at.returns c).In-Some (ring-told (goal.at.returns c).After-ring_of-found) in
-    ring_answered c.args.width c.args.height c.args.cells.now (corners_of c.args.rectangle) (good-map (goal.at.returns c).Else-not-grid_ok) p.good _ _ p c.list_ring.ensures
+    ring_answered c.args.width c.args.height c.args.cells.now (corners_of c.args.rectangle) (good-map (goal.at.returns c).Else-not-grid_ok) p.good _ p c.list_ring.ensures

@@ -8,7 +8,7 @@ use Rattle.ringrows.proofs.rows.count_rows.Given as goal
 
 abbrev pub invariant-loop-n : goal.invariant-loop-n
 invariant-loop-n l =
-    (l.n ≤ l.ring.bottom + 1 - l.ring.top) × (l.total ≡ length (first_rows l.cells l.width (box_of l.ring) (box_of l.body) l.n))
+    (l.n ≤ l.ring.ring.bottom + 1 - l.ring.ring.top) × (l.total ≡ length (first_rows l.cells l.width (box_of l.ring.ring) (box_of l.ring.body) l.n))
 
 abbrev pub decreases-loop-n : goal.decreases-loop-n
-decreases-loop-n l = l.ring.bottom + 1 - l.ring.top - l.n
+decreases-loop-n l = l.ring.ring.bottom + 1 - l.ring.ring.top - l.n

@@ -15,7 +15,7 @@ overflow_sub-n-end c = omega (arith, c.requires.map.grid.along)
 pub loop-n-init : goal.loop-n-init
 loop-n-init c =
     let a = c.args in
-    (omega arith, rw (rows_none a.cells.now a.width (box_of a.ring) (box_of a.body)) (listed_none _ _))
+    (omega arith, rw (rows_none a.cells.now a.width (box_of a.ring.ring) (box_of a.ring.body)) (listed_none _ _))
 
 pub overflow_add-ring : goal.overflow_add-ring
 overflow_add-ring c = omega (arith, c.requires.map.grid.rows)
@@ -29,8 +29,8 @@ list_row-used-requires c =
     let l = c.loop-n in
     rw c.row_runs-runs.ensures
     (record {
-      cells_in = runs_in a.width (box_of a.ring) (box_of a.body) _ c.requires.map (omega arith);
-      room = omega (arith, l.invariant.1.ends, listed_length l.invariant.1, c.requires.room, rows_room a.cells.now a.width (box_of a.ring) (box_of a.body) l.n c.loop-n-test.true);
+      cells_in = runs_in a.width (box_of a.ring.ring) (box_of a.ring.body) _ c.requires.map (omega arith);
+      room = omega (arith, l.invariant.1.ends, listed_length l.invariant.1, c.requires.room, rows_room a.cells.now a.width (box_of a.ring.ring) (box_of a.ring.body) l.n c.loop-n-test.true);
     })
 
 pub overflow_step-n : goal.overflow_step-n
@@ -43,7 +43,7 @@ pub loop-n-preserved : goal.loop-n-preserved
 loop-n-preserved c =
     let a = c.args in
     let l = c.loop-n in
-    (omega arith, rw (rows_more a.cells.now a.width (box_of a.ring) (box_of a.body) l.n) (listed_more l.invariant.1 (rw c.row_runs-runs.ensures at c.list_row-used.ensures)))
+    (omega arith, rw (rows_more a.cells.now a.width (box_of a.ring.ring) (box_of a.ring.body) l.n) (listed_more l.invariant.1 (rw c.row_runs-runs.ensures at c.list_row-used.ensures)))
 
 pub shape_of-out : goal.shape_of-out
 shape_of-out c = listed_length c.loop-n.invariant.1
@@ -51,4 +51,4 @@ shape_of-out c = listed_length c.loop-n.invariant.1
 pub returns : goal.returns
 returns c =
     let a = c.args in
-    rw (rows_all a.cells.now a.width (box_of a.ring) (box_of a.body) c.loop-n.n (omega arith)) at c.loop-n.invariant.1
+    rw (rows_all a.cells.now a.width (box_of a.ring.ring) (box_of a.ring.body) c.loop-n.n (omega arith)) at c.loop-n.invariant.1

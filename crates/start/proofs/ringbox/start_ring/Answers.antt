@@ -26,7 +26,7 @@ loop-y-preserved c =
     let f : l.y ≡ first + (l.y - first) = omega arith in (
       omega arith,
       rw e
-          (turn_more (level_at a.lanes.now) (level_at l.lanes) _ (l.y - first) (λ k. row_hit a.window a.walk.now a.rows.now (box_of a.ring) (box_of a.body) a.lane (first + k)) l.invariant.1 (rw (← f) c.start_row.ensures)),
+          (turn_more (level_at a.lanes.now) (level_at l.lanes) _ (l.y - first) (λ k. row_hit a.window a.walk.now a.rows.now (box_of a.ring.ring) (box_of a.ring.body) a.lane (first + k)) l.invariant.1 (rw (← f) c.start_row.ensures)),
     )
 
 pub returns : goal.returns

@@ -13,7 +13,7 @@ start_cells-requires c =
     let p = c.requires in
     let a = c.args in
     rw (c.saturating_sub.ensures, c.stride.ensures, c.min-past.ensures, c.max-first.ensures, c.from.ensures, c.from-2.ensures)
-    (cells_room a.window (length a.lanes.now) (length a.walk.now) a.rows.now (box_of a.ring) a.lane (a.y - a.window.top) p.0 p.1 p.2 (omega (arith, p.3, p.4)))
+    (cells_room a.window (length a.lanes.now) (length a.walk.now) a.rows.now (box_of a.ring.ring) a.lane (a.y - a.window.top) p.0 p.1 p.2 (omega (arith, p.3, p.4)))
 
 pub returns : goal.returns
 unfolding row_hit first_column past_column
