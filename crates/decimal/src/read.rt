@@ -15,6 +15,7 @@ fn digits_count(bytes: &[u8]) -> usize
 }
 
 // Reads a number from 0 to the highest that is accepted: the number, and the place after it.
+// Stays: what reads a text takes it and a place, here and above: "thin functions call covered ones on slice and number" (document 01).
 pub fn natural(text: &[u8], at: usize, highest: u32) -> Option<(u32, usize)>
     ensures { Reads (pos 0) (pos highest) text.now at (natural_found result) }
 {
