@@ -56,7 +56,7 @@ for name, text in source.items():
         # the body is the first brace that no clause opens
         i = 0
         while True:
-            c = re.compile(r'\b(requires|ensures|ghost)\b[^{]*|(\{)|(;)').search(rest, i)
+            c = re.compile(r'\b(requires|ensures|ghost)\b[^{]*|(\{)|(;)(?![^\[]*\])').search(rest, i)
             if c is None or c.group(3):
                 f.body = ''
                 break
