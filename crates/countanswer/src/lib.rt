@@ -19,7 +19,7 @@ pub struct CountAnswer {
 
 // The three numbers of an answer.
 // Stays: asks for what fits, and `From` asks for nothing.
-#[tactic(auto, unfolding(crate::specs::Answers::listed_of, crate::specs::Answers::joined_of, crate::specs::Numbers::listed_numbers, crate::specs::Numbers::joined_numbers, crate::specs::Numbers::InU32))]
+#[tactic(auto, unfolding(crate::specs::Answers::listed_of, crate::specs::Answers::joined_of, crate::specs::Numbers::listed_numbers, crate::specs::Numbers::joined_numbers))]
 pub fn numbers(answer: Result<usize, Refusal>) -> CountAnswer
     requires { InU32 answer }
     ensures { (result ≡ listed_numbers (listed_of answer)) × (result ≡ joined_numbers (joined_of answer)) }

@@ -1,26 +1,23 @@
 -- Lines of four numbers, read one after another and stored.
 use mathlib.Core.Path.{◌≡◌, refl, sym, ap, ◌∙◌}
-use mathlib.Core.List.{List, [], ◌∷◌, ◌++◌, map, append_assoc}
+use mathlib.Core.List.{List, [], ◌∷◌, ◌++◌, map}
 use Prim.Native.Nat.{ℕ, zero, suc, ◌+◌, ◌*◌, ◌-◌, ◌≤◌, ◌<◌}
 use borrow.Rule.Slice.PartMut.{put_mid}
 use native.Mathlib.Omega.{arith}
 use lib.Dec.{le→leb}
 use lib.IntN.{ℤ, pos}
-use lib.ListN.{length, take, drop, replicate, length-replicate, length-append, length-drop, length-map}
-use lib.Seq.{sets, length-sets, sets-eq, drop-drop}
+use lib.ListN.{length, drop, replicate, length-replicate, length-append, length-drop, length-map}
+use lib.Seq.{sets, length-sets}
 use Rattle.textlines.specs.Lines.{text_of}
 use Rattle.roomlines.specs.Fours.{Four, four_line, Signed32, FourFits, AllFit, nothing, more, numbers_of, FourAt, four, no_four, ReadsFour, accepts_four, refuses_four}
 use Rattle.roomlines.specs.Answers.{four_of}
 use Rattle.roomlines.specs.Forms.{BreaksIn, LinesAt, FourLines}
 use Rattle.roomlines.proofs.Spelled.{part_length}
-use Rattle.roomlines.proofs.Parts.{map_append, sets_append}
+use Rattle.roomlines.proofs.Parts.{map_append, sets_append, part_stored}
 use Rattle.roomlines.proofs.Counted.{lines_more}
 use Rattle.fourlines.specs.Storing.{BufferFits, line_up_to, no_line, TakesFour, takes_four, breaks_four, up_to, broken, FoursTaken, TakesFours, takes_fours, breaks_fours}
 
 -- ---- four numbers written over a part of a buffer
-part_stored : (l vs : List ℤ) (i n : ℕ) → length vs ≡ n → i + n ≤ length l → put_mid i n l vs ≡ sets l i vs
-part_stored l vs i n e h = ap (λ (t : List ℤ). take i l ++ (vs ++ t)) (drop-drop n i l ∙ ap (λ (m : ℕ). drop (i + m) l) (sym e)) ∙ sym (sets-eq vs l i (omega arith) ∙ append_assoc (take i l) vs (drop (i + length vs) l))
-
 four_numbers : (l : List ℤ) → length l ≡ 4 → l ≡ numbers_of (four_of l ∷ [])
 unfolding numbers_of
 four_numbers [] h = absurd (omega arith)

@@ -3,9 +3,10 @@ use mathlib.Core.Path.{◌≡◌, refl, sym, ap, ◌∙◌}
 use mathlib.Core.List.{List, [], ◌∷◌, ◌++◌, map, append_assoc}
 use Prim.Native.Nat.{ℕ, suc, ◌+◌, ◌≤◌}
 use native.Mathlib.Nat.{add-zero}
+use borrow.Rule.Slice.PartMut.{put_mid}
 use native.Mathlib.Omega.{arith}
-use lib.ListN.{length, set, length-append}
-use lib.Seq.{sets}
+use lib.ListN.{length, take, drop, set, length-append}
+use lib.Seq.{sets, sets-eq, drop-drop}
 use Rattle.textlines.specs.Lines.{text_of}
 
 pub map_append {ℓ} : {A B : Type ℓ} (g : A → B) (l t : List A) → map g (l ++ t) ≡ map g l ++ map g t
@@ -18,6 +19,10 @@ sets_append l i (v ∷ vs) ws = sets_append (set l i v) (suc i) vs ws ∙ ap (λ
   where
     next : suc i + length vs ≡ i + suc (length vs)
     next = omega arith
+
+-- values written over a part of a buffer
+pub part_stored : {A : Type 0} (l vs : List A) (i n : ℕ) → length vs ≡ n → i + n ≤ length l → put_mid i n l vs ≡ sets l i vs
+part_stored {A} l vs i n e h = ap (λ (t : List A). take i l ++ (vs ++ t)) (drop-drop n i l ∙ ap (λ (m : ℕ). drop (i + m) l) (sym e)) ∙ sym (sets-eq vs l i (omega arith) ∙ append_assoc (take i l) vs (drop (i + length vs) l))
 
 pub text_append : (ls ms : List (List ℕ)) → text_of (ls ++ ms) ≡ text_of ls ++ text_of ms
 unfolding text_of

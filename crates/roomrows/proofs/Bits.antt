@@ -1,16 +1,13 @@
 -- Cells stored from a place on.
-use mathlib.Core.Path.{◌≡◌, sym, ap, ◌∙◌}
-use mathlib.Core.List.{List, ◌++◌, map, append_assoc}
+use mathlib.Core.Path.{◌≡◌, ◌∙◌}
+use mathlib.Core.List.{List, map}
 use Prim.Native.Nat.{ℕ, ◌+◌, ◌-◌, ◌≤◌}
 use native.Mathlib.Omega.{arith}
 use borrow.Rule.Slice.PartMut.{put_mid}
 use lib.ListN.{length, take, drop, length-drop, length-map}
-use lib.Seq.{sets, sets-eq, drop-drop, length-take-le}
+use lib.Seq.{sets, length-take-le}
+use Rattle.roomlines.proofs.Parts.{part_stored}
 use Rattle.roomrows.specs.Rows.{cell_of}
-
--- values written over a part of a buffer
-part_stored : (l vs : List ℕ) (i n : ℕ) → length vs ≡ n → i + n ≤ length l → put_mid i n l vs ≡ sets l i vs
-part_stored l vs i n e h = ap (λ (t : List ℕ). take i l ++ (vs ++ t)) (drop-drop n i l ∙ ap (λ (m : ℕ). drop (i + m) l) (sym e)) ∙ sym (sets-eq vs l i (omega arith) ∙ append_assoc (take i l) vs (drop (i + length vs) l))
 
 -- the cells of a row written over a part of a buffer
 pub row_stored : (text cells stored : List ℕ) (from to width : ℕ) → from + width ≤ length text → to + width ≤ length cells → stored ≡ map cell_of (take (from + width - from) (drop from text)) → put_mid to (to + width - to) cells stored ≡ sets cells to (map cell_of (take width (drop from text)))

@@ -3,10 +3,15 @@ use Rattle.std.specs.Prelude.{ℕ, ◌+◌, ◌-◌, ◌*◌, ◌<◌, ◌≤◌
 use Rattle.lane.specs.Levels.{level_at, LaneCount}
 use Rattle.ways.specs.Buffers.{flag_at}
 use Rattle.row.specs.Visits.{Ground, State}
+use Rattle.row.specs.declared.visit.Ground as code
 
 -- what a sweep reads and never writes
 abbrev pub ground_of : (lanes stride : ℕ) (flags rows : List ℕ) → Ground
 ground_of lanes stride flags rows = record { lanes = lanes; stride = stride; flag = flag_at flags; rows = rows }
+
+-- the same of the code's
+abbrev pub as_ground : code.Ground → Ground
+as_ground g = ground_of g.lane_count g.stride g.flags.now g.rows.now
 
 -- what a sweep reads and writes
 abbrev pub state_of : (lanes : List ℤ) (versions pulled : List ℕ) (changed : Bool) → State

@@ -1,7 +1,7 @@
 // The visit of one row: skipped where the row that feeds it has the version that it last pulled.
 ghost use Rattle.std.specs.Prelude.{◌≡◌, ◌+◌, ◌^◌, ◌<◌, length};
 ghost use Rattle.row.specs.Visits.{Visited, row_at, feed_at};
-ghost use Rattle.row.specs.Buffers.{ground_of, state_of, VisitFits};
+ghost use Rattle.row.specs.Buffers.{as_ground, state_of, VisitFits};
 ghost use Rattle.ways.specs.Buffers.{Gates};
 
 use crate::row;
@@ -50,7 +50,7 @@ pub fn visit(
 ) -> bool
     requires { Gates gates.now × VisitFits ground.lane_count ground.stride own feed ground.rows.now
         (length lanes.old) (length ground.flags.now) (length versions.old) (length pulled.old) }
-    ensures { Visited (ground_of ground.entry.lane_count ground.entry.stride ground.entry.flags.now ground.entry.rows.now) down fresh own feed
+    ensures { Visited (as_ground ground.entry) down fresh own feed
         (state_of lanes.old versions.old pulled.old changed) (state_of lanes.new versions.new pulled.new result) }
 {
     let a = usize::from(ground.rows[2 * own - 2]);

@@ -1,5 +1,5 @@
 // The sweeps of a field, with its version buffers: made before the first sweep, and cleared after the last.
-ghost use Rattle.row.specs.Buffers.{ground_of};
+ghost use Rattle.row.specs.Buffers.{as_ground};
 ghost use Rattle.sweep.specs.Relaxes.{RelaxFits, Relaxed};
 
 use crate::run;
@@ -17,7 +17,7 @@ pub fn relax(
 ) -> usize
     requires { RelaxFits ground.lane_count ground.stride ground.height quiet
         lanes.old ground.flags.now ground.rows.now versions.old pulled_down.old pulled_up.old }
-    ensures { Relaxed (ground_of ground.entry.lane_count ground.entry.stride ground.entry.flags.now ground.entry.rows.now) ground.entry.height quiet
+    ensures { Relaxed (as_ground ground.entry) ground.entry.height quiet
         lanes.old versions.old pulled_down.old pulled_up.old
         lanes.new versions.new pulled_down.new pulled_up.new result }
 {

@@ -1,7 +1,7 @@
 // One sweep by its direction, and the alternating sweeps up to the first quiet one after the first.
 ghost use Rattle.std.specs.Prelude.{false, length};
 ghost use Rattle.sweep.specs.Sweeps.{Turns, OneSweep, Ended};
-ghost use Rattle.row.specs.Buffers.{ground_of, state_of};
+ghost use Rattle.row.specs.Buffers.{as_ground, state_of};
 ghost use Rattle.sweep.specs.Buffers.{run_of, SweepFits, RunFits, CanRun};
 
 use quietsweep;
@@ -20,7 +20,7 @@ pub fn sweep(
 ) -> bool
     requires { SweepFits ground.lane_count ground.stride ground.height ground.rows.now
         (length lanes.old) (length ground.flags.now) (length versions.old) (length pulled.old) }
-    ensures { Turns (ground_of ground.entry.lane_count ground.entry.stride ground.entry.flags.now ground.entry.rows.now) down fresh ground.entry.height
+    ensures { Turns (as_ground ground.entry) down fresh ground.entry.height
         (state_of lanes.old versions.old pulled.old false) ground.entry.height (state_of lanes.new versions.new pulled.new result) }
 {
     let gates = gate::gates();
@@ -53,7 +53,7 @@ fn alternate(
 ) -> bool
     requires { RunFits ground.lane_count ground.stride ground.height ground.rows.now
         (length lanes.old) (length ground.flags.now) (length versions.old) (length pulled_down.old) (length pulled_up.old) }
-    ensures { OneSweep (ground_of ground.entry.lane_count ground.entry.stride ground.entry.flags.now ground.entry.rows.now) ground.entry.height number
+    ensures { OneSweep (as_ground ground.entry) ground.entry.height number
         (run_of lanes.old versions.old pulled_down.old pulled_up.old)
         (run_of lanes.new versions.new pulled_down.new pulled_up.new) result }
 {
@@ -73,7 +73,7 @@ pub fn run(
 ) -> usize
     requires { CanRun ground.lane_count ground.stride ground.height
         lanes.old ground.flags.now ground.rows.now versions.old pulled_down.old pulled_up.old }
-    ensures { Ended (ground_of ground.entry.lane_count ground.entry.stride ground.entry.flags.now ground.entry.rows.now) ground.entry.height
+    ensures { Ended (as_ground ground.entry) ground.entry.height
         (run_of lanes.old versions.old pulled_down.old pulled_up.old)
         (run_of lanes.new versions.new pulled_down.new pulled_up.new) result }
 {
