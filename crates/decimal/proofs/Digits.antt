@@ -97,3 +97,7 @@ digits_below (suc k) n h =
 
 pub digits_short : (n : ℕ) → n < 18446744073709551616 → length (digits_of n) ≤ 20
 digits_short n h = digits_below 19 n (omega arith)
+
+-- of a u32 ten at most
+pub digits_of_u32 : (n : ℕ) → n < 4294967296 → length (digits_of n) ≤ 10
+digits_of_u32 n h = digits_below 9 n (omega arith)

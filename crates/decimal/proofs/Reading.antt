@@ -1,13 +1,15 @@
 -- The digits that stand at a place of a text, and the number that stands there.
-use Rattle.std.proofs.Common.{◌≡◌, sym, ap, subst, ◌∙◌, ℕ, ◌+◌, ◌*◌, ◌-◌, ◌≤◌, ◌<◌, List, length, get_or, take, drop, slice_range, take_while, true, false, pos, arith}
+use Rattle.std.proofs.Common.{◌≡◌, sym, ap, subst, ◌∙◌, ℕ, ◌+◌, ◌*◌, ◌-◌, ◌≤◌, ◌<◌, min, List, length, get_or, take, drop, slice_range, take_while, true, false, pos, arith}
 use Rattle.std.specs.List.{prefix_len}
 use Rattle.std.proofs.lemmas.List.Folds.{length-prefix_len}
 use Rattle.std.proofs.lemmas.List.Sums.{prefix_len_passes, prefix_len_stops, prefix_len-le-length, fold_more}
 use Rattle.std.proofs.lemmas.Grind.{common_steps}
-use lib.Seq.{slice, length-take-le, take-add, drop_at}
+use native.Mathlib.Decide.{dec_lt}
+use lib.ListN.{get_or-eq_default}
+use lib.Seq.{slice, length-take-le, take-add, drop_at, get_or-drop, get_or-take}
 use Rattle.decimal.specs.Numbers.{is_digit, digits_of, decimal_of, NumberAt, Reads, number, nothing}
 use Rattle.decimal.specs.Numerals.{Digits}
-use Rattle.decimal.proofs.Digits.{clash, digits_are}
+use Rattle.decimal.proofs.Digits.{clash, by_cases, digits_are, digits_of_u32}
 use Rattle.decimal.proofs.Values.{value, value_take, spells}
 use Rattle.decimal.proofs.Canonical.{digits_form, digits_number}
 use Rattle.decimal.proofs.Places.{slice_at, past_no_digit, past_is, byte_is, pos_starts, digit_inside}
@@ -20,33 +22,71 @@ pub record DigitsAt (text : List ℕ) (at : ℕ) (digits : List ℕ) : Type 0 wh
   pub each : (k : ℕ) → k < length digits → is_digit (get_or digits k 0) ≡ true
   pub ended : is_digit (get_or text (at + length digits) 0) ≡ false
 
-module _ {text rest : List ℕ} {at : ℕ} (inside : at ≤ length text) (from : rest ≡ slice_range text at (length text)) where
-  pub digits_at : {count : ℕ} → count ≡ length (take_while is_digit rest) → DigitsAt text at (take count rest)
-  digits_at {count} counted = record { inside = omega (arith, long, most, size); is = is; each = each; ended = ended }
-    where
-      whole : rest ≡ drop at text
-      whole = grind (arith, common_steps)
+-- the digits among the first bytes from a place on, `near` in number: eleven, or all that there are
+pub record NearDigits (text rest : List ℕ) (at near count : ℕ) : Type 0 where
+  pub size : length rest + at ≡ length text
+  pub rest_is : rest ≡ drop at text
+  pub near_is : near ≡ min (length rest) 11
+  pub most : count ≤ near
+  pub digit : (k : ℕ) → k < count → is_digit (get_or text (at + k) 0) ≡ true
+  pub stops : count < near → is_digit (get_or text (at + count) 0) ≡ false
 
-      size : length rest + at ≡ length text
-      size = grind (arith, common_steps)
+pub near_digits : {text rest : List ℕ} {at near count : ℕ} → at ≤ length text → rest ≡ slice_range text at (length text) → near ≡ min (length rest) 11 →
+    count ≡ length (take_while is_digit (take near rest)) → NearDigits text rest at near count
+near_digits {text} {rest} {at} {near} {count} inside from few counted = record { size = size; rest_is = whole; near_is = few; most = most; digit = digit; stops = stops }
+  where
+    size : length rest + at ≡ length text
+    size = grind (arith, common_steps)
 
-      passed : count ≡ prefix_len is_digit rest
-      passed = counted ∙ length-prefix_len is_digit rest
+    whole : rest ≡ drop at text
+    whole = grind (arith, common_steps)
 
-      most : count ≤ length rest
-      most = omega (arith, passed, prefix_len-le-length is_digit rest)
+    seen : length (take near rest) ≡ near
+    seen = length-take-le near rest (omega (arith, few))
 
-      long : length (take count rest) ≡ count
-      long = length-take-le count rest most
+    passed : count ≡ prefix_len is_digit (take near rest)
+    passed = counted ∙ length-prefix_len is_digit (take near rest)
 
-      is : slice at (at + length (take count rest)) text ≡ take count rest
-      is = rw (long, take-add at count text) (drop_at (take at text) (take count (drop at text)) at (length-take-le at text inside) ∙ ap (take count) (sym whole))
+    most : count ≤ near
+    most = omega (arith, seen, passed, prefix_len-le-length is_digit (take near rest))
 
-      each : (k : ℕ) → k < length (take count rest) → is_digit (get_or (take count rest) k 0) ≡ true
-      each k h = grind (arith, common_steps, long, passed, prefix_len_passes is_digit rest k 0)
+    byte : (k : ℕ) → k < near → get_or (take near rest) k 0 ≡ get_or text (at + k) 0
+    byte k h = grind (arith, common_steps)
 
-      ended : is_digit (get_or text (at + length (take count rest)) 0) ≡ false
-      ended = grind (arith, common_steps, long, passed, most, size, past_no_digit, prefix_len_stops is_digit rest 0)
+    digit : (k : ℕ) → k < count → is_digit (get_or text (at + k) 0) ≡ true
+    digit k h = ap is_digit (sym (byte k (omega (arith, most)))) ∙ prefix_len_passes is_digit (take near rest) k 0 (omega (arith, passed))
+
+    stops : count < near → is_digit (get_or text (at + count) 0) ≡ false
+    stops h = ap is_digit (sym (byte count h)) ∙ (rw (← passed) at (prefix_len_stops is_digit (take near rest) 0 (omega (arith, seen, passed))))
+
+-- ten at most are all that stand there
+pub digits_at : {text rest : List ℕ} {at near count : ℕ} → at ≤ length text → NearDigits text rest at near count → count ≤ 10 → DigitsAt text at (take count rest)
+digits_at {text} {rest} {at} {near} {count} inside d short = record { inside = omega (arith, long, d.size, d.most, d.near_is); is = is; each = each; ended = ended }
+  where
+    long : length (take count rest) ≡ count
+    long = length-take-le count rest (omega (arith, d.most, d.near_is))
+
+    is : slice at (at + length (take count rest)) text ≡ take count rest
+    is = rw (long, take-add at count text) (drop_at (take at text) (take count (drop at text)) at (length-take-le at text inside) ∙ ap (take count) (sym d.rest_is))
+
+    each : (k : ℕ) → k < length (take count rest) → is_digit (get_or (take count rest) k 0) ≡ true
+    each k h =
+        let l : k < count = omega (arith, long) in
+        ap is_digit (get_or-take count rest k 0 l ∙ ap (λ (r : List ℕ). get_or r k 0) d.rest_is ∙ get_or-drop at text k 0) ∙ d.digit k l
+
+    ended : is_digit (get_or text (at + length (take count rest)) 0) ≡ false
+    ended = rw long (by_cases (dec_lt count near) d.stops
+        (λ g. ap is_digit (get_or-eq_default text 0 (omega (arith, g, d.size, d.most, d.near_is, short))) ∙ past_no_digit))
+
+-- more are of no number that a u32 holds
+pub more_than_ten : {text rest : List ℕ} {at near count highest : ℕ} → NearDigits text rest at near count → 10 < count → highest < 4294967296 → Reads (pos 0) (pos highest) text at nothing
+unfolding decimal_of
+more_than_ten {text} {rest} {at} {near} {count} {highest} d many low = natural_nothing none
+  where
+    none : (m past : ℕ) → m ≤ highest → NumberAt text at (pos m) past → ⊥
+    none m past h n =
+        let e : past ≡ at + length (digits_of m) = past_is n in
+        clash (sym (d.digit (length (digits_of m)) (omega (arith, digits_of_u32 m))) ∙ (rw e at n.ended))
 
 -- a number that stands there has all of them
 module _ {text digits : List ℕ} {at : ℕ} (d : DigitsAt text at digits) where

@@ -20,7 +20,12 @@ pub fn natural(text: &[u8], at: usize, highest: u32) -> Option<(u32, usize)>
     ensures { Reads (pos 0) (pos highest) text.now at (natural_found result) }
 {
     let rest = text.get(at..)?;
-    let digits = &rest[..digits_count(rest)];
+    // No u32 has more than ten digits: a longer run of them is refused by its first eleven.
+    let count = digits_count(&rest[..rest.len().min(11)]);
+    if count > 10 {
+        return None;
+    }
+    let digits = &rest[..count];
     if digits.is_empty() {
         return None;
     }
