@@ -23,19 +23,37 @@ impl<'a> Classes<'a> {
         self.ranks.fill(0);
     }
 
-    // The root of a member, found by following parents. The path to it is shortened on the way back.
+    // The root of a member. The path to it is shortened.
     pub fn find(&mut self, member: usize) -> usize
         requires { Forest self.old.parents.now self.old.ranks.now × (member < length self.old.parents.now) }
         ensures lent { SameSlices self.old self.new }
         ensures ranks { self.new.ranks.now ≡ self.old.ranks.now }
         ensures found { Found self.old.parents.now self.new.parents.now self.old.ranks.now member result }
     {
-        let parent = self.parents[member] as usize;
-        if parent == member {
-            return member;
-        }
-        let root = self.find(parent);
-        self.parents[member] = root as u16;
-        root
+        found(self.parents, self.ranks, member)
     }
+}
+
+// The root of a member of a set that is lent to be changed. A function by itself: the borrow checker does not cover a shared use of
+// one slice of `Classes` beside a use of the other.
+fn found(parents: &mut [u16], ranks: &mut [u8], member: usize) -> usize
+    requires { Forest parents.old ranks.old × (member < length parents.old) }
+    ensures ranks { ranks.new ≡ ranks.old }
+    ensures found { Found parents.old parents.new ranks.old member result }
+{
+    find(parents, ranks, member)
+}
+
+// The root of a member, found by following parents. The path to it is shortened on the way back.
+pub fn find(parents: &mut [u16], ranks: &[u8], member: usize) -> usize
+    requires { Forest parents.old ranks.now × (member < length parents.old) }
+    ensures { Found parents.old parents.new ranks.now member result }
+{
+    let parent = parents[member] as usize;
+    if parent == member {
+        return member;
+    }
+    let root = find(parents, ranks, parent);
+    parents[member] = root as u16;
+    root
 }

@@ -6,6 +6,7 @@ mod number;
 ghost use Rattle.std.specs.Prelude.{◌≡◌, length};
 ghost use Rattle.disjoint.specs.Forest.{Forest};
 ghost use Rattle.disjoint.specs.Lent.{SameSlices};
+ghost use Rattle.roots.specs.Roots.{AtRoots};
 ghost use Rattle.fieldnumbers.specs.NumbersMade.{NumbersMade};
 
 use disjoint::find::Classes;
@@ -24,8 +25,18 @@ pub fn numbered(
     ensures made { NumbersMade classes.old.parents.now answers.old
         states.new queue.new classes.new.parents.now classes.new.ranks.now answers.new result }
 {
-    roots::rooted(classes);
+    rooted(classes.parents, classes.ranks);
     let count = number::number(classes.parents, answers);
     zeros::clear(states, queue, classes.parents, classes.ranks);
     count
+}
+
+// Makes the parent of each member its root. A function by itself: the borrow checker does not cover a shared use of one slice of `Classes`
+// beside a use of the other.
+fn rooted(parents: &mut [u16], ranks: &mut [u8])
+    requires { Forest parents.old ranks.old }
+    ensures ranks { ranks.new ≡ ranks.old }
+    ensures rooted { AtRoots parents.old parents.new }
+{
+    roots::rooted(parents, ranks);
 }

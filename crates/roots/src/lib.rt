@@ -1,21 +1,17 @@
 // The roots of all members at once.
 #![tactic(auto)]
 
-ghost use Rattle.std.specs.Prelude.{◌≡◌};
 ghost use Rattle.disjoint.specs.Forest.{Forest};
-ghost use Rattle.disjoint.specs.Lent.{SameSlices};
 ghost use Rattle.roots.specs.Roots.{AtRoots};
 
-use disjoint::find::Classes;
+use disjoint::find;
 
 // Makes the parent of each member its root.
-pub fn rooted(classes: &mut Classes)
-    requires { Forest classes.old.parents.now classes.old.ranks.now }
-    ensures lent { SameSlices classes.old classes.new }
-    ensures ranks { classes.new.ranks.now ≡ classes.old.ranks.now }
-    ensures rooted { AtRoots classes.old.parents.now classes.new.parents.now }
+pub fn rooted(parents: &mut [u16], ranks: &[u8])
+    requires { Forest parents.old ranks.now }
+    ensures { AtRoots parents.old parents.new }
 {
-    for i in 0..classes.parents.len() {
-        classes.find(i);
+    for i in 0..parents.len() {
+        find::find(parents, ranks, i);
     }
 }
