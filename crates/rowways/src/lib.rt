@@ -27,7 +27,7 @@ pub fn out<const LANES: usize>(
     for n in 0..count {
         let i = (first + n) * LANES;
         let o = (feeding + n) * LANES;
-        let new = cell::out(lanes, gates, i, o, flags[first + n], down, beside);
+        let new = cell::out(lanes, gates, i, o, LANES, flags[first + n], down, beside);
         let still = strip::put(lanes, i, new, same);
         same = still;
         beside = new;

@@ -14,11 +14,11 @@ flag_at flags i = get_or flags i 0
 
 -- ---- lengths: `cells` and `bytes` are those of the lanes and of the flags
 
--- the lanes of the cell at index i, of the one at index o that feeds it, and of those beside that
-pub record CellFits (lanes i o cells : ℕ) : Type 0 where
-  pub own : i + lanes ≤ cells
+-- `count` lanes of a cell from index i on, those at index o that feed them, and of the cells beside that, `lanes` before and after
+pub record CellFits (count lanes i o cells : ℕ) : Type 0 where
+  pub own : i + count ≤ cells
   pub low : lanes ≤ o
-  pub fed : o + lanes + lanes ≤ cells
+  pub fed : o + lanes + count ≤ cells
 
 -- `count` cells from `first` on and those beside them, and the same from `feeding` on
 pub record RowFits (lanes first feeding count cells bytes : ℕ) : Type 0 where
