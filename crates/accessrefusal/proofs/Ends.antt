@@ -1,8 +1,8 @@
 -- The ends of the lists of access cells and their indices, as the library's methods test them, and what is known where none falls.
-use mathlib.Core.Path.{◌≡◌, refl, sym}
+use mathlib.Core.Path.{◌≡◌, refl, sym, ◌∙◌}
 use mathlib.Core.Bool.{Bool, true, false, not, ◌&&◌, not-not}
 use mathlib.Core.List.{List, [], ◌∷◌}
-use Prim.Native.Nat.{ℕ, zero, suc, ◌+◌, ◌-◌, ◌≤◌, ◌<◌}
+use Prim.Native.Nat.{ℕ, zero, suc, ◌-◌, ◌≤◌, ◌<◌}
 use native.Mathlib.Numerals.{add-one}
 use native.Mathlib.Omega.{arith}
 use lib.ListN.{length, get_or}
@@ -11,12 +11,7 @@ use borrow.Author.Tests.{leb-true, le-leb}
 use Rattle.walkgraph.specs.Refusals.{all, never_fall, last_end, bad_access}
 use Rattle.walkgraph.specs.FieldsPromise.{start_of}
 use Rattle.cells.proofs.Bools.{both}
-use Rattle.std.specs.Bool.{MatchBool}
 use Rattle.std.specs.List.{list_all, IsAllAdjacentAnswer}
-use Rattle.std.specs.List.Sorted.{IsNonDecreasing}
-use Rattle.std.specs.Ordering.{nat_cmp, is_le, is_some_and}
-use Rattle.std.proofs.Common.{Some}
-use Rattle.std.proofs.lemmas.List.Sorted.{non_decreasing_from_is_sorted}
 
 -- the two tests of lists, in the code's order
 pub good_lists : (cells : ℕ) (indices ends : List ℕ) →
@@ -71,16 +66,19 @@ sorted_never_fall before (end ∷ []) first rise = rw (le-leb before end first) 
 sorted_never_fall before (end ∷ next ∷ ends) first rise =
     rw (le-leb before end first) (sorted_never_fall end (next ∷ ends) (rise 0 0 (omega arith)) (λ k d h. rise (suc k) d (omega arith)))
 
-sorted_cases : (ends : List ℕ) (sorted : Bool) → MatchBool sorted (IsNonDecreasing ends) ((k : ℕ) × (k + 1 < length ends) × ((d : ℕ) → get_or ends (k + 1) d < get_or ends k d)) → sorted ≡ never_fall 0 ends
-sorted_cases ends true rise = sym (sorted_never_fall 0 ends (omega arith) (λ k d h. rise k (suc k) d (omega arith) h))
-sorted_cases ends false falls =
+pub sorted_ends : (ends : List ℕ) (sorted : Bool) → IsAllAdjacentAnswer (λ x y b. b ≡ leb x y) ends sorted → sorted ≡ never_fall 0 ends
+sorted_ends ends true rise = sym (sorted_never_fall 0 ends (omega arith) (λ k d h. rises k d h))
+  where
+    rises : (k d : ℕ) → suc k < length ends → get_or ends k d ≤ get_or ends (suc k) d
+    rises k d h = leb-true (get_or ends k d) (get_or ends (suc k) d) (sym (rw (add-one k) at (rise k d (omega arith))))
+sorted_ends ends false falls =
     elim (never_fall 0 ends) as (λ b. never_fall 0 ends ≡ b → false ≡ b) [
-      | true ↦ λ e. absurd (omega (arith, rise_from 0 ends e falls.0 (omega (arith, falls.1)), rw (add-one falls.0) at (falls.2 0)))
+      | true ↦ λ e. absurd (clash ((rw (add-one falls.0) at (falls.2 0)) ∙ le-leb (get_or ends falls.0 0) (get_or ends (suc falls.0) 0) (rise_from 0 ends e falls.0 (omega (arith, falls.1)))))
       | false ↦ λ e. refl
     ] refl
-
-pub sorted_ends : (ends : List ℕ) (sorted : Bool) → IsAllAdjacentAnswer (λ x y b. is_some_and is_le (Some (nat_cmp x y)) ≡ b) ends sorted → sorted ≡ never_fall 0 ends
-sorted_ends ends sorted answer = sorted_cases ends sorted (non_decreasing_from_is_sorted ends sorted answer)
+  where
+    clash : false ≡ true → ⊥
+    clash e = cc
 
 last_from : (before : ℕ) (ends : List ℕ) → last_end before ends ≡ get_or (before ∷ ends) (length ends) 0
 unfolding last_end

@@ -8,7 +8,7 @@ ghost use Rattle.walkgraph.specs.Refusals.{all, never_fall, last_end, bad_access
 fn never_fall(ends: &[u32]) -> bool
     ensures { result ≡ never_fall 0 ends.now }
 {
-    ends.is_sorted()
+    ends.is_sorted_by(|before, end| before <= end)
 }
 
 // The ends never fall, and the last of them is the length of the list: 0 where there is none.
