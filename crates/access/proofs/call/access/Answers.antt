@@ -10,6 +10,7 @@ use Rattle.countanswer.specs.Answers.{listed_of}
 use Rattle.ringrows.proofs.OfResources.{found_on_map}
 use Rattle.access.proofs.Answers.{grid_refused, resource_refused, ring_answered}
 use mathlib.Core.Path.{ap}
+use Rattle.std.proofs.Common.{rules}
 use mathlib.Core.Bool.{not}
 use Rattle.access.proofs.call.access.Goals.{After-ring_of-found, Else-not-grid_ok, In-Some}
 use Rattle.access.proofs.call.access.Goals as goal
@@ -28,8 +29,7 @@ ring_of-found-requires c =
 
 -- the ring of the rectangle as it was given, not as it is read from its bits
 ring-told : (c : After-ring_of-found) → RingOf c.args.width c.args.height (corners_of c.args.rectangle) c.ring_of-found.result
-ring-told c =
-    c.ring_of-found.ensures
+ring-told c = search rules
 
 pub returns-in_default : goal.returns-in_default
 unfolding listed_of RingOf
