@@ -42,6 +42,10 @@ puts_shows {p} {before} {after} start r l =
     let front = sets-eq p before.bytes.now before.at r.room in
     rw (l.content, front, start, e) (take-append_seam p (drop (0 + length p) before.bytes.now))
 
+-- no two results are what a text put on a page comes to
+pub puts_once : {p : List ℕ} {before after other : Page} → Puts p before after → Puts p before other → (after.bytes.now ≡ other.bytes.now) × (after.at ≡ other.at)
+puts_once l m = (l.content ∙ sym m.content, l.ends ∙ sym m.ends)
+
 -- where there is room for two texts there is room for the first, and then for the other
 pub room_first : (p q : List ℕ) {page : Page} → Room (p ++ q) page → Room p page
 room_first p q h = record { room = omega (arith, h.room, length-append p q) }
