@@ -5,6 +5,16 @@ ghost use Rattle.walkbytes.specs.Copies.{Copies, map_rows};
 
 use window::record::Window;
 
+// Copies the cells of a row. One by one: for `copy_from_slice` the library would need `memmove` from outside.
+fn copy_row(row: &[u8], walk: &mut [u8])
+    requires { length row.now ≡ length walk.old }
+    ensures { walk.new ≡ row.now }
+{
+    for (x, copied) in walk.iter_mut().enumerate() {
+        *copied = row[x];
+    }
+}
+
 // Copies the cells of the window from a map of width columns.
 pub fn copy_rows(cells: &[u8], walk: &mut [u8], window: Window, width: usize)
     requires { Copies window width (length cells.now) (length walk.old) }
@@ -15,6 +25,6 @@ pub fn copy_rows(cells: &[u8], walk: &mut [u8], window: Window, width: usize)
     for y in 0..window.height {
         let from = (window.top + y) * width + window.left;
         let to = (y + 1) * stride + 1;
-        walk[to..to + count].copy_from_slice(&cells[from..from + count]);
+        copy_row(&cells[from..from + count], &mut walk[to..to + count]);
     }
 }

@@ -37,7 +37,7 @@ loop-y-preserved c =
     (row_copied a.window a.width a.cells.now l.walk _ l.y _ _ _ _ _ to from (omega arith) (omega arith)
     (in_map _ _ _ _ _ c.requires c.loop-y-test.true)
     (in_walk _ _ _ _ _ s _ c.requires c.loop-y-test.true c.stride-stride.ensures c.loop-y.auto.walk)
-    c.copy_from_slice.ensures.after)
+    c.copy_row.ensures)
 
 pub returns : goal.returns
 unfolding window_rows
