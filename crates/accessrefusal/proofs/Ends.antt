@@ -10,7 +10,7 @@ use lib.Dec.{leb, ltb, eqb}
 use borrow.Author.Tests.{leb-true, le-leb}
 use Rattle.walkgraph.specs.Refusals.{all, never_fall, last_end, bad_access}
 use Rattle.walkgraph.specs.FieldsPromise.{start_of}
-use Rattle.cells.proofs.Bools.{both}
+use Rattle.cells.proofs.Bools.{clash, both}
 use Rattle.std.specs.List.{list_all, IsAllAdjacentAnswer}
 
 -- the two tests of lists, in the code's order
@@ -67,18 +67,15 @@ sorted_never_fall before (end ∷ next ∷ ends) first rise =
     rw (le-leb before end first) (sorted_never_fall end (next ∷ ends) (rise 0 0 (omega arith)) (λ k d h. rise (suc k) d (omega arith)))
 
 pub sorted_ends : (ends : List ℕ) (sorted : Bool) → IsAllAdjacentAnswer (λ x y b. b ≡ leb x y) ends sorted → sorted ≡ never_fall 0 ends
-sorted_ends ends true rise = sym (sorted_never_fall 0 ends (omega arith) (λ k d h. rises k d h))
+sorted_ends ends true rise = sym (sorted_never_fall 0 ends (omega arith) rises)
   where
     rises : (k d : ℕ) → suc k < length ends → get_or ends k d ≤ get_or ends (suc k) d
     rises k d h = leb-true (get_or ends k d) (get_or ends (suc k) d) (sym (rw (add-one k) at (rise k d (omega arith))))
 sorted_ends ends false falls =
     elim (never_fall 0 ends) as (λ b. never_fall 0 ends ≡ b → false ≡ b) [
-      | true ↦ λ e. absurd (clash ((rw (add-one falls.0) at (falls.2 0)) ∙ le-leb (get_or ends falls.0 0) (get_or ends (suc falls.0) 0) (rise_from 0 ends e falls.0 (omega (arith, falls.1)))))
+      | true ↦ λ e. absurd (clash (sym (le-leb (get_or ends falls.0 0) (get_or ends (suc falls.0) 0) (rise_from 0 ends e falls.0 (omega (arith, falls.1)))) ∙ sym (rw (add-one falls.0) at (falls.2 0))))
       | false ↦ λ e. refl
     ] refl
-  where
-    clash : false ≡ true → ⊥
-    clash e = cc
 
 last_from : (before : ℕ) (ends : List ℕ) → last_end before ends ≡ get_or (before ∷ ends) (length ends) 0
 unfolding last_end
