@@ -4,7 +4,7 @@
 ghost use Rattle.std.specs.Prelude.{◌≡◌, not, ◌&&◌, ltb, eqb};
 ghost use Rattle.walkgraph.specs.Refusals.{all, never_fall, last_end, bad_access};
 
-// No end is below the one before it.
+// No end is below the one before it. The test of two ends is written out, so that an edit can turn it.
 fn never_fall(ends: &[u32]) -> bool
     ensures { result ≡ never_fall 0 ends.now }
 {

@@ -27,7 +27,7 @@ pub ring_of-found-requires : goal.ring_of-found-requires
 ring_of-found-requires c =
     let g = grid c.args.width c.args.height c.args.cells.now (good-map (goal.at.ring_of-found-requires c).Else-not-grid_ok) in (g.across.most, g.along.most)
 
--- the ring of the rectangle as it was given, not as it is read from its bits
+-- the ring of the rectangle as it was given, in whatever form the code passes it on: an edit of its corners is refused by the corners alone
 ring-told : (c : After-ring_of-found) → RingOf c.args.width c.args.height (corners_of c.args.rectangle) c.ring_of-found.result
 ring-told c = search rules
 
