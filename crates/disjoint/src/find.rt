@@ -30,13 +30,13 @@ impl<'a> Classes<'a> {
         ensures ranks { self.new.ranks.now ≡ self.old.ranks.now }
         ensures found { Found self.old.parents.now self.new.parents.now self.old.ranks.now member result }
     {
-        found(self.parents, self.ranks, member)
+        find_lent(self.parents, self.ranks, member)
     }
 }
 
 // The root of a member of a set that is lent to be changed. A function by itself: the borrow checker does not cover a shared use of
 // one slice of `Classes` beside a use of the other.
-fn found(parents: &mut [u16], ranks: &mut [u8], member: usize) -> usize
+fn find_lent(parents: &mut [u16], ranks: &mut [u8], member: usize) -> usize
     requires { Forest parents.old ranks.old × (member < length parents.old) }
     ensures ranks { ranks.new ≡ ranks.old }
     ensures found { Found parents.old parents.new ranks.old member result }

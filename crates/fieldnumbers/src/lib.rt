@@ -31,8 +31,7 @@ pub fn numbered(
     count
 }
 
-// Makes the parent of each member its root. A function by itself: the borrow checker does not cover a shared use of one slice of `Classes`
-// beside a use of the other.
+// Makes the parent of each member its root. A function by itself, as `find_lent` of disjoint is.
 fn rooted(parents: &mut [u16], ranks: &mut [u8])
     requires { Forest parents.old ranks.old }
     ensures ranks { ranks.new ≡ ranks.old }
