@@ -2,7 +2,7 @@
 use mathlib.Core.Path.{◌≡◌, refl, sym, ◌∙◌}
 use mathlib.Core.Bool.{Bool, true, false, not, ◌&&◌, not-not}
 use mathlib.Core.List.{List, [], ◌∷◌}
-use Prim.Native.Nat.{ℕ, zero, suc, ◌-◌, ◌≤◌, ◌<◌}
+use Prim.Native.Nat.{ℕ, zero, suc, ◌+◌, ◌-◌, ◌≤◌, ◌<◌}
 use native.Mathlib.Numerals.{add-one}
 use native.Mathlib.Omega.{arith}
 use lib.ListN.{length, get_or}
@@ -10,8 +10,13 @@ use lib.Dec.{leb, ltb, eqb}
 use borrow.Author.Tests.{leb-true, le-leb}
 use Rattle.walkgraph.specs.Refusals.{all, never_fall, last_end, bad_access}
 use Rattle.walkgraph.specs.FieldsPromise.{start_of}
-use Rattle.cells.proofs.Bools.{clash, both}
+use Rattle.cells.proofs.Bools.{both}
+use Rattle.std.specs.Bool.{MatchBool}
 use Rattle.std.specs.List.{list_all, IsAllAdjacentAnswer}
+use Rattle.std.specs.List.Sorted.{IsNonDecreasing}
+use Rattle.std.specs.Ordering.{nat_cmp, is_le, is_some_and}
+use Rattle.std.proofs.Common.{Some, tests}
+use Rattle.std.proofs.lemmas.List.Sorted.{non_decreasing_from_is_sorted}
 
 -- the two tests of lists, in the code's order
 pub good_lists : (cells : ℕ) (indices ends : List ℕ) →
@@ -66,16 +71,26 @@ sorted_never_fall before (end ∷ []) first rise = rw (le-leb before end first) 
 sorted_never_fall before (end ∷ next ∷ ends) first rise =
     rw (le-leb before end first) (sorted_never_fall end (next ∷ ends) (rise 0 0 (omega arith)) (λ k d h. rise (suc k) d (omega arith)))
 
-pub sorted_ends : (ends : List ℕ) (sorted : Bool) → IsAllAdjacentAnswer (λ x y b. b ≡ leb x y) ends sorted → sorted ≡ never_fall 0 ends
-sorted_ends ends true rise = sym (sorted_never_fall 0 ends (omega arith) rises)
-  where
-    rises : (k d : ℕ) → suc k < length ends → get_or ends k d ≤ get_or ends (suc k) d
-    rises k d h = leb-true (get_or ends k d) (get_or ends (suc k) d) (sym (rw (add-one k) at (rise k d (omega arith))))
-sorted_ends ends false falls =
+sorted_cases : (ends : List ℕ) (sorted : Bool) → MatchBool sorted (IsNonDecreasing ends) ((k : ℕ) × (k + 1 < length ends) × ((d : ℕ) → get_or ends (k + 1) d < get_or ends k d)) → sorted ≡ never_fall 0 ends
+sorted_cases ends true rise = sym (sorted_never_fall 0 ends (omega arith) (λ k d h. rise k (suc k) d (omega arith) h))
+sorted_cases ends false falls =
     elim (never_fall 0 ends) as (λ b. never_fall 0 ends ≡ b → false ≡ b) [
-      | true ↦ λ e. absurd (clash (sym (le-leb (get_or ends falls.0 0) (get_or ends (suc falls.0) 0) (rise_from 0 ends e falls.0 (omega (arith, falls.1)))) ∙ sym (rw (add-one falls.0) at (falls.2 0))))
+      | true ↦ λ e. absurd (omega (arith, rise_from 0 ends e falls.0 (omega (arith, falls.1)), rw (add-one falls.0) at (falls.2 0)))
       | false ↦ λ e. refl
     ] refl
+
+-- where the library compares the ends itself
+pub sorted_ends : (ends : List ℕ) (sorted : Bool) → IsAllAdjacentAnswer (λ x y b. is_some_and is_le (Some (nat_cmp x y)) ≡ b) ends sorted → sorted ≡ never_fall 0 ends
+sorted_ends ends sorted answer = sorted_cases ends sorted (non_decreasing_from_is_sorted ends sorted answer)
+
+-- the library's order of two numbers, as a test
+order_leb : (x y : ℕ) → is_some_and is_le (Some (nat_cmp x y)) ≡ leb x y
+order_leb x y = grind (arith, tests)
+
+-- where the test of two ends is given
+pub sorted_ends_by : (ends : List ℕ) (sorted : Bool) → IsAllAdjacentAnswer (λ x y b. b ≡ leb x y) ends sorted → sorted ≡ never_fall 0 ends
+sorted_ends_by ends true rise = sorted_ends ends true (λ k d h. order_leb _ _ ∙ sym (rise k d h))
+sorted_ends_by ends false falls = sorted_ends ends false (falls.0, falls.1, λ d. order_leb _ _ ∙ sym (falls.2 d))
 
 last_from : (before : ℕ) (ends : List ℕ) → last_end before ends ≡ get_or (before ∷ ends) (length ends) 0
 unfolding last_end

@@ -4,12 +4,10 @@ use Rattle.std.specs.List.{prefix_len}
 use Rattle.std.proofs.lemmas.List.Folds.{length-prefix_len}
 use Rattle.std.proofs.lemmas.List.Sums.{prefix_len_passes, prefix_len_stops, prefix_len-le-length, fold_more}
 use Rattle.std.proofs.lemmas.Grind.{common_steps}
-use native.Mathlib.Decide.{dec_lt}
-use lib.ListN.{get_or-eq_default}
-use lib.Seq.{slice, length-take-le, take-add, drop_at, get_or-drop, get_or-take}
+use lib.Seq.{slice, length-take-le, take-add, drop_at, get_or-drop}
 use Rattle.decimal.specs.Numbers.{is_digit, digits_of, decimal_of, NumberAt, Reads, number, nothing}
 use Rattle.decimal.specs.Numerals.{Digits}
-use Rattle.decimal.proofs.Digits.{clash, by_cases, digits_are, digits_of_u32}
+use Rattle.decimal.proofs.Digits.{clash, digits_are, digits_of_u32}
 use Rattle.decimal.proofs.Values.{value, value_take, spells}
 use Rattle.decimal.proofs.Canonical.{digits_form, digits_number}
 use Rattle.decimal.proofs.Places.{slice_at, past_no_digit, past_is, byte_is, pos_starts, digit_inside}
@@ -22,6 +20,36 @@ pub record DigitsAt (text : List ℕ) (at : ℕ) (digits : List ℕ) : Type 0 wh
   pub each : (k : ℕ) → k < length digits → is_digit (get_or digits k 0) ≡ true
   pub ended : is_digit (get_or text (at + length digits) 0) ≡ false
 
+-- what is left of a text from a place on
+rest_drop : (text : List ℕ) {rest : List ℕ} (at : ℕ) → at ≤ length text → rest ≡ slice_range text at (length text) → rest ≡ drop at text
+rest_drop text at inside from = grind (arith, common_steps)
+
+rest_size : (text : List ℕ) {rest : List ℕ} (at : ℕ) → at ≤ length text → rest ≡ slice_range text at (length text) → length rest + at ≡ length text
+rest_size text at inside from = grind (arith, common_steps)
+
+module _ {text rest : List ℕ} {at : ℕ} (inside : at ≤ length text) (from : rest ≡ slice_range text at (length text)) where
+  -- all digits from a place on
+  pub digits_at : {count : ℕ} → count ≡ length (take_while is_digit rest) → DigitsAt text at (take count rest)
+  digits_at {count} counted = record { inside = omega (arith, long, most, rest_size text at inside from); is = is; each = each; ended = ended }
+    where
+      passed : count ≡ prefix_len is_digit rest
+      passed = counted ∙ length-prefix_len is_digit rest
+
+      most : count ≤ length rest
+      most = omega (arith, passed, prefix_len-le-length is_digit rest)
+
+      long : length (take count rest) ≡ count
+      long = length-take-le count rest most
+
+      is : slice at (at + length (take count rest)) text ≡ take count rest
+      is = rw (long, take-add at count text) (drop_at (take at text) (take count (drop at text)) at (length-take-le at text inside) ∙ ap (take count) (sym (rest_drop text at inside from)))
+
+      each : (k : ℕ) → k < length (take count rest) → is_digit (get_or (take count rest) k 0) ≡ true
+      each k h = grind (arith, common_steps, long, passed, prefix_len_passes is_digit rest k 0)
+
+      ended : is_digit (get_or text (at + length (take count rest)) 0) ≡ false
+      ended = grind (arith, common_steps, long, passed, most, rest_size text at inside from, past_no_digit, prefix_len_stops is_digit rest 0)
+
 -- the digits among the first bytes from a place on, `near` in number: eleven, or all that there are
 pub record NearDigits (text rest : List ℕ) (at near count : ℕ) : Type 0 where
   pub size : length rest + at ≡ length text
@@ -33,14 +61,8 @@ pub record NearDigits (text rest : List ℕ) (at near count : ℕ) : Type 0 wher
 
 pub near_digits : {text rest : List ℕ} {at near count : ℕ} → at ≤ length text → rest ≡ slice_range text at (length text) → near ≡ min (length rest) 11 →
     count ≡ length (take_while is_digit (take near rest)) → NearDigits text rest at near count
-near_digits {text} {rest} {at} {near} {count} inside from few counted = record { size = size; rest_is = whole; near_is = few; most = most; digit = digit; stops = stops }
+near_digits {text} {rest} {at} {near} {count} inside from few counted = record { size = rest_size text at inside from; rest_is = rest_drop text at inside from; near_is = few; most = most; digit = digit; stops = stops }
   where
-    size : length rest + at ≡ length text
-    size = grind (arith, common_steps)
-
-    whole : rest ≡ drop at text
-    whole = grind (arith, common_steps)
-
     seen : length (take near rest) ≡ near
     seen = length-take-le near rest (omega (arith, few))
 
@@ -60,23 +82,26 @@ near_digits {text} {rest} {at} {near} {count} inside from few counted = record {
     stops h = ap is_digit (sym (byte count h)) ∙ (rw (← passed) at (prefix_len_stops is_digit (take near rest) 0 (omega (arith, seen, passed))))
 
 -- ten at most are all that stand there
-pub digits_at : {text rest : List ℕ} {at near count : ℕ} → at ≤ length text → NearDigits text rest at near count → count ≤ 10 → DigitsAt text at (take count rest)
-digits_at {text} {rest} {at} {near} {count} inside d short = record { inside = omega (arith, long, d.size, d.most, d.near_is); is = is; each = each; ended = ended }
+pub near_digits_at : {text rest : List ℕ} {at near count : ℕ} → at ≤ length text → NearDigits text rest at near count → count ≤ 10 → DigitsAt text at (take count rest)
+near_digits_at {text} {rest} {at} {near} {count} inside d short = digits_at inside from (counted ∙ sym (length-prefix_len is_digit rest))
   where
-    long : length (take count rest) ≡ count
-    long = length-take-le count rest (omega (arith, d.most, d.near_is))
+    from : rest ≡ slice_range text at (length text)
+    from = grind (arith, common_steps, d.rest_is, d.size)
 
-    is : slice at (at + length (take count rest)) text ≡ take count rest
-    is = rw (long, take-add at count text) (drop_at (take at text) (take count (drop at text)) at (length-take-le at text inside) ∙ ap (take count) (sym d.rest_is))
+    byte : (k : ℕ) → get_or rest k 0 ≡ get_or text (at + k) 0
+    byte k = ap (λ (r : List ℕ). get_or r k 0) d.rest_is ∙ get_or-drop at text k 0
 
-    each : (k : ℕ) → k < length (take count rest) → is_digit (get_or (take count rest) k 0) ≡ true
-    each k h =
-        let l : k < count = omega (arith, long) in
-        ap is_digit (get_or-take count rest k 0 l ∙ ap (λ (r : List ℕ). get_or r k 0) d.rest_is ∙ get_or-drop at text k 0) ∙ d.digit k l
+    most : prefix_len is_digit rest ≤ length rest
+    most = prefix_len-le-length is_digit rest
 
-    ended : is_digit (get_or text (at + length (take count rest)) 0) ≡ false
-    ended = rw long (by_cases (dec_lt count near) d.stops
-        (λ g. ap is_digit (get_or-eq_default text 0 (omega (arith, g, d.size, d.most, d.near_is, short))) ∙ past_no_digit))
+    not_shorter : prefix_len is_digit rest < count → ⊥
+    not_shorter l = clash (sym (d.digit _ l) ∙ sym (ap is_digit (byte _)) ∙ prefix_len_stops is_digit rest 0 (omega (arith, l, d.most, d.near_is)))
+
+    not_longer : count < prefix_len is_digit rest → ⊥
+    not_longer l = clash (sym (prefix_len_passes is_digit rest count 0 l) ∙ ap is_digit (byte _) ∙ d.stops (omega (arith, l, most, short, d.near_is)))
+
+    counted : count ≡ prefix_len is_digit rest
+    counted = omega (arith, not_shorter, not_longer)
 
 -- more are of no number that a u32 holds
 pub more_than_ten : {text rest : List ℕ} {at near count highest : ℕ} → NearDigits text rest at near count → 10 < count → highest < 4294967296 → Reads (pos 0) (pos highest) text at nothing

@@ -2,12 +2,12 @@
 use Rattle.std.proofs.Common.{arith, take}
 use Rattle.decimal.specs.Answers.{natural_found}
 use Rattle.decimal.proofs.Digits.{digit_range}
-use Rattle.decimal.proofs.Reading.{DigitsAt, near_digits, digits_at, more_than_ten, no_numeral, too_large, digits_read, value_step, value_end, no_rest}
+use Rattle.decimal.proofs.Reading.{DigitsAt, near_digits, near_digits_at, more_than_ten, no_numeral, too_large, digits_read, value_step, value_end, no_rest}
 use Rattle.decimal.proofs.read.natural.Goals.{Else-count-gt10}
 use Rattle.decimal.proofs.read.natural.Goals as goal
 
 digits : (c : Else-count-gt10) → DigitsAt c.args.text.now c.args.at (take c.digits_count-count.result c.in_ok-rest.rest.now)
-digits c = let h = c.in_ok-rest.ensures.lookup.0 in digits_at h.0 (near_digits h.0 h.2 c.min.ensures c.digits_count-count.ensures) c.if-count-gt10.false
+digits c = let h = c.in_ok-rest.ensures.lookup.0 in near_digits_at h.0 (near_digits h.0 h.2 c.min.ensures c.digits_count-count.ensures) c.if-count-gt10.false
 
 pub returns-in_err-rest : goal.returns-in_err-rest
 unfolding natural_found
