@@ -2,7 +2,7 @@
 use Rattle.std.proofs.Common.{◌≡◌, sym, ap, subst, ◌∙◌, ℕ, ◌+◌, ◌*◌, ◌-◌, ◌≤◌, ◌<◌, min, List, length, get_or, take, drop, slice_range, take_while, true, false, pos, arith}
 use Rattle.std.specs.List.{prefix_len}
 use Rattle.std.proofs.lemmas.List.Folds.{length-prefix_len}
-use Rattle.std.proofs.lemmas.List.Sums.{prefix_len_passes, prefix_len_stops, prefix_len-le-length, fold_more}
+use Rattle.std.proofs.lemmas.List.Sums.{prefix_len_passes, prefix_len_stops, prefix_len_is, prefix_len-le-length, fold_more}
 use Rattle.std.proofs.lemmas.Grind.{common_steps}
 use lib.Seq.{slice, length-take-le, take-add, drop_at, get_or-drop}
 use Rattle.decimal.specs.Numbers.{is_digit, digits_of, decimal_of, NumberAt, Reads, number, nothing}
@@ -83,7 +83,7 @@ near_digits {text} {rest} {at} {near} {count} inside from few counted = record {
 
 -- ten at most are all that stand there
 pub near_digits_at : {text rest : List ℕ} {at near count : ℕ} → at ≤ length text → NearDigits text rest at near count → count ≤ 10 → DigitsAt text at (take count rest)
-near_digits_at {text} {rest} {at} {near} {count} inside d short = digits_at inside from (counted ∙ sym (length-prefix_len is_digit rest))
+near_digits_at {text} {rest} {at} {near} {count} inside d short = digits_at inside from (sym (length-prefix_len is_digit rest ∙ counted))
   where
     from : rest ≡ slice_range text at (length text)
     from = grind (arith, common_steps, d.rest_is, d.size)
@@ -91,17 +91,8 @@ near_digits_at {text} {rest} {at} {near} {count} inside d short = digits_at insi
     byte : (k : ℕ) → get_or rest k 0 ≡ get_or text (at + k) 0
     byte k = ap (λ (r : List ℕ). get_or r k 0) d.rest_is ∙ get_or-drop at text k 0
 
-    most : prefix_len is_digit rest ≤ length rest
-    most = prefix_len-le-length is_digit rest
-
-    not_shorter : prefix_len is_digit rest < count → ⊥
-    not_shorter l = clash (sym (d.digit _ l) ∙ sym (ap is_digit (byte _)) ∙ prefix_len_stops is_digit rest 0 (omega (arith, l, d.most, d.near_is)))
-
-    not_longer : count < prefix_len is_digit rest → ⊥
-    not_longer l = clash (sym (prefix_len_passes is_digit rest count 0 l) ∙ ap is_digit (byte _) ∙ d.stops (omega (arith, l, most, short, d.near_is)))
-
-    counted : count ≡ prefix_len is_digit rest
-    counted = omega (arith, not_shorter, not_longer)
+    counted : prefix_len is_digit rest ≡ count
+    counted = prefix_len_is is_digit rest count 0 (omega (arith, d.most, d.near_is)) (λ k h. ap is_digit (byte k) ∙ d.digit k h) (λ h. ap is_digit (byte count) ∙ d.stops (omega (arith, h, short, d.near_is)))
 
 -- more are of no number that a u32 holds
 pub more_than_ten : {text rest : List ℕ} {at near count highest : ℕ} → NearDigits text rest at near count → 10 < count → highest < 4294967296 → Reads (pos 0) (pos highest) text at nothing
